@@ -1,0 +1,5 @@
+pub mod Refusals
+pub mod Rights
+pub mod Table
+pub mod Kind
+pub mod Rows
