@@ -27,7 +27,12 @@ impl<W: Weight> Row<W> {
     pub fn empty() -> Row<W>
         ensures value { λ r. ⌜ r ≡ emptyRow (W·Weight .meaning) ⌝ }
     {
-        Row { right: Right::Empty, weight: W::zero(), choice: Choice::Blank, held: false }
+        Row {
+            right: Right::Empty,
+            weight: W::zero(),
+            choice: Choice::Blank,
+            held: false,
+        }
     }
 }
 
@@ -36,6 +41,11 @@ impl<W> Row<W> {
     pub fn grant(right: Right, weight: W) -> Row<W>
         ensures value { λ r. ⌜ r ≡ grantRow right weight ⌝ }
     {
-        Row { right, weight, choice: Choice::Blank, held: false }
+        Row {
+            right,
+            weight,
+            choice: Choice::Blank,
+            held: false,
+        }
     }
 }

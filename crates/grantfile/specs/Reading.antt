@@ -1,0 +1,42 @@
+-- What the reader's calls answer, and what they leave.
+--     Headed kind file r          the head is checked
+--     Opened kind file r          head, contents and end are checked
+--     Shown file d r              the body of device d, as a part of the file
+--     Filled k s file rows        each grant of the file stands in its row, and every other row of the table is empty
+--     ReadInto k file m m′ r      the whole file is checked, and then the rows filled, m before and m′ after
+use mathlib.Core.Path.{_≡_}
+use mathlib.Core.List.{List, _++_}
+use Prim.Native.Nat.{ℕ, _+_, _*_, _<_, _≤_}
+use lib.ListN.{length, getD, take, drop}
+use Rattle.std.specs.declared.option.Option.the-variants.{Some, None}
+use Rattle.std.specs.declared.result.Result.{Result}
+use Rattle.std.specs.declared.result.Result.the-variants.{Ok, Err}
+use Rattle.mesh.specs.declared.right.Right.{Right}
+use Rattle.mesh.specs.declared.row.Row.{Row}
+use Rattle.mesh.specs.declared.shape.Shape.{Shape}
+use Rattle.mesh.specs.Rights.{rightOf}
+use Rattle.mesh.specs.Rows.{emptyRow, grantRow}
+use Rattle.mesh.specs.Table.{rowOf, rowsOf}
+use Rattle.mesh.specs.Kind.{Kind}
+use Rattle.grantfile.specs.declared.fault.Fault.{Fault}
+use Rattle.grantfile.specs.Format.{devicesOf, pointsOf, countOf, grantAt, pointAt, letterAt, amountAt}
+use Rattle.grantfile.specs.Tests.{first, headTests, contentsTests, allTests}
+
+-- the shape is the one that the file names
+abbrev pub ShapeOf : List ℕ → Shape → Type 0
+ShapeOf file s = (s .devices ≡ devicesOf file) × (s .points ≡ pointsOf file)
+
+abbrev pub Headed : ℕ → List ℕ → Result Shape Fault → Type 0
+Headed kind file (Ok s) = (first (headTests kind file) ≡ None) × ShapeOf file s
+Headed kind file (Err f) = first (headTests kind file) ≡ Some f
+
+pub record Filled {W : Type 0} (k : Kind W) (s : Shape) (file : List ℕ) (rows : List (Row W)) : Type 0 where
+  pub named : (d j : ℕ) (r : Right) (x : Row W) → d < s .devices → j < countOf file d → rightOf (letterAt file (grantAt file d j)) ≡ Some r
+      → getD rows (rowOf s d (pointAt file (grantAt file d j))) x ≡ grantRow r (k .of (amountAt file (grantAt file d j)))
+  pub others : (d p : ℕ) (x : Row W) → d < s .devices → p < s .points → ((j : ℕ) → j < countOf file d → pointAt file (grantAt file d j) ≡ p → ⊥)
+      → getD rows (rowOf s d p) x ≡ emptyRow k
+
+abbrev pub ReadInto : {W : Type 0} → Kind W → List ℕ → List (Row W) → List (Row W) → Result Shape Fault → Type 0
+ReadInto k file before after (Ok s) =
+    (first (allTests k (length before) file) ≡ None) × ShapeOf file s × Filled k s file after × (drop (rowsOf s) after ≡ drop (rowsOf s) before)
+ReadInto k file before after (Err f) = (first (allTests k (length before) file) ≡ Some f) × (after ≡ before)

@@ -1,0 +1,84 @@
+-- What the reader tests, in its order, and what it finds.
+--     Test            a test: whether it fails, and the fault that it then is
+--     first ts        the fault of the first test that fails
+--     headTests       four bytes, the first 47 hexadecimal, the caller's kind, a table's size
+--     rowsTest        as many rows lent as the table has
+--     contentsTests   the contents are whole, each entry starts where the body before it ends, the file ends with the last body
+--     bodyTests       grant by grant: points that rise within the table, a right, an admitted amount
+--     allTests        all of these, in this order
+use mathlib.Core.Bool.{Bool, true, false, cond, not, _||_, _&&_}
+use mathlib.Core.List.{List, [], _∷_, _++_, map}
+use Prim.Native.Nat.{ℕ, _+_, _-_, _*_, min}
+use lib.Dec.{eqb, ltb, leb}
+use lib.ListN.{length}
+use Rattle.std.specs.Iters.{counting}
+use Rattle.std.specs.Joined.{joined}
+use Rattle.std.specs.Options.{isSome}
+use Rattle.std.specs.declared.option.Option.{Option}
+use Rattle.std.specs.declared.option.Option.the-variants.{Some, None}
+use Rattle.mesh.specs.declared.refusal.Refusal.{Refusal}
+use Rattle.mesh.specs.declared.refusal.Refusal.the-variants.{ShortFile, WrongHead, WrongSize, ShortMemory, ShortContents, WrongStart, WrongEnd, OutsideTable, WrongRight, WrongAmount}
+use Rattle.mesh.specs.Rights.{rightOf}
+use Rattle.mesh.specs.Kind.{Kind}
+use Rattle.grantfile.specs.declared.fault.Fault.{Fault}
+use Rattle.grantfile.specs.declared.fault.Layer.{Layer}
+use Rattle.grantfile.specs.declared.fault.Layer.the-variants as layer
+use Rattle.grantfile.specs.Format.{byteAt, devicesOf, pointsOf, entryAt, startOf, countOf, bodyAt, grantAt, pointAt, letterAt, amountAt}
+
+pub record Test : Type 0 where
+  pub fails : Bool
+  pub fault : Fault
+
+abbrev pub first : List Test → Option Fault
+first [] = None
+first (t ∷ ts) = cond (t .fails) (Some (t .fault)) (first ts)
+
+abbrev pub test : Bool → Refusal → ℕ → Layer → Test
+test b w i l = record { fails = b; fault = record { why = w; place = i; layer = l } }
+
+-- not 1 to 64
+abbrev pub outOfRange : ℕ → Bool
+outOfRange n = ltb n 1 || ltb 64 n
+
+abbrev pub headTests : ℕ → List ℕ → List Test
+headTests kind file =
+    test (ltb (length file) 4) ShortFile (length file) layer.Head
+    ∷ test (not (eqb (byteAt file 0) 0x47)) WrongHead 0 layer.Head
+    ∷ test (not (eqb (byteAt file 1) kind)) WrongHead 1 layer.Head
+    ∷ test (outOfRange (devicesOf file)) WrongSize 2 layer.Head
+    ∷ test (outOfRange (pointsOf file)) WrongSize 3 layer.Head
+    ∷ []
+
+abbrev pub rowsTest : ℕ → List ℕ → Test
+rowsTest lent file = test (ltb lent (devicesOf file * pointsOf file)) ShortMemory 0 layer.Rows
+
+abbrev pub entryTest : List ℕ → ℕ → Test
+entryTest file d = test (not (eqb (startOf file d) (bodyAt file d))) WrongStart (entryAt d) layer.Contents
+
+abbrev pub contentsTests : List ℕ → List Test
+contentsTests file =
+    test (ltb (length file) (entryAt (devicesOf file))) ShortContents (length file) layer.Contents
+    ∷ (map (entryTest file) (counting 0 (devicesOf file))
+    ++ test (not (eqb (length file) (bodyAt file (devicesOf file)))) WrongEnd (min (length file) (bodyAt file (devicesOf file))) layer.Contents
+    ∷ [])
+
+-- the point of grant j is not above that of the grant before it in the same body
+abbrev pub notRising : List ℕ → ℕ → ℕ → Bool
+notRising file d j = ltb 0 j && leb (pointAt file (grantAt file d j)) (pointAt file (grantAt file d (j - 1)))
+
+abbrev pub grantTests : {W : Type 0} → Kind W → List ℕ → ℕ → ℕ → List Test
+grantTests k file d j =
+    let place = grantAt file d j in
+    test (leb (pointsOf file) (pointAt file place) || notRising file d j) OutsideTable place layer.Body
+    ∷ test (not (isSome (rightOf (letterAt file place)))) WrongRight (place + 1) layer.Body
+    ∷ test (not (k .admits (amountAt file place))) WrongAmount (place + 2) layer.Weight
+    ∷ []
+
+abbrev pub bodyTests : {W : Type 0} → Kind W → List ℕ → ℕ → List Test
+bodyTests k file d = joined (grantTests k file d) (counting 0 (countOf file d))
+
+abbrev pub bodiesTests : {W : Type 0} → Kind W → List ℕ → List Test
+bodiesTests k file = joined (bodyTests k file) (counting 0 (devicesOf file))
+
+abbrev pub allTests : {W : Type 0} → Kind W → ℕ → List ℕ → List Test
+allTests k lent file = headTests (k .number) file ++ (rowsTest lent file ∷ (contentsTests file ++ bodiesTests k file))

@@ -1,0 +1,21 @@
+// What is wrong with a file: why it is refused, at which byte, and which layer of the format found it.
+use mesh::refusal::Refusal;
+use mesh::refusal::RefusalDebug;
+use mesh::refusal::RefusalEq;
+use mesh::refusal::RefusalPartialEq;
+
+#[derive(Clone, Copy, PartialEq, Eq, Debug)]
+pub enum Layer {
+    Head,
+    Rows,
+    Contents,
+    Body,
+    Weight,
+}
+
+#[derive(Clone, Copy, PartialEq, Eq, Debug)]
+pub struct Fault {
+    pub why: Refusal,
+    pub place: usize,
+    pub layer: Layer,
+}

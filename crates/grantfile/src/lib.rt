@@ -1,0 +1,2 @@
+// The grant file: checking its bytes, and filling rows from it.
+pub mod fault;
