@@ -3,3 +3,9 @@ pub mod Rights
 pub mod Table
 pub mod Kind
 pub mod Rows
+pub mod Sets
+pub mod Flow
+pub mod Touched
+pub mod Followers
+pub mod Reach
+pub mod Order

@@ -1,7 +1,10 @@
 // The words of the subject: refusals, rights, rows, weights, and the flow between devices.
+mod flow;
+pub mod reach;
 pub mod refusal;
 pub mod right;
 pub mod row;
+mod sets;
 pub mod shape;
 mod table;
 pub mod weight;
