@@ -1,24 +1,29 @@
 -- From the rows to the points that devices read and write, and from these to followers.
 use mathlib.Core.Path.{_≡_, refl, sym, ap, ap₂, _∙_, subst}
 use mathlib.Core.Bool.{Bool, true, false, cond, _&&_, not}
-use mathlib.Core.List.{List, [], _∷_, map}
+use mathlib.Core.List.{List, [], _∷_}
 use mathlib.Core.Logic.{_⊎_, inl, inr, _≢_}
-use Prim.Native.Nat.{ℕ, zero, suc, _+_, _-_, _*_, _^_, _≤_, _<_}
+use Prim.Native.Nat.{ℕ, zero, suc, _+_, _*_, _≤_, _<_}
 use native.Mathlib.Nat.{not-suc-le-zero, le-of-suc-le-suc, mul-le-mul-right, suc-mul}
 use native.Mathlib.Omega.{arith}
 use lib.Dec.{T, ltb, eqb}
 use lib.ListN.{length, getD, set, replicate, length-set}
 use lib.Seq.{getD-set-same, getD-set-other}
-use borrow.Author.Tests.{lt-ltb, le-ltb, eqb-true, eqb-false, ltb-true, ltb-false}
+use borrow.Author.Tests.{lt-ltb, le-ltb, eqb-true, eqb-false, ltb-true, ltb-false, ne-eqb}
 use Rattle.std.proofs.shelf.Lists.{getD-replicate, getD-past}
-use Rattle.std.proofs.shelf.Tests.{cases-lt}
+use Rattle.std.proofs.shelf.Tests.{cases-lt, and-parts, not-true}
+use Rattle.mesh.specs.declared.flow.Flow.{Flow}
 use Rattle.mesh.specs.declared.right.Right.{Right}
 use Rattle.mesh.specs.declared.right.Right.the-variants.{Empty}
 use Rattle.mesh.specs.declared.row.Row.{Row}
 use Rattle.mesh.specs.declared.shape.Shape.{Shape}
-use Rattle.mesh.specs.Flow.{Rights, rightAt, rights}
-use Rattle.mesh.specs.Sets.{bit, flag, setOf}
-use Rattle.mesh.proofs.SetLaws.{setOf-bit, setOf-lt, bit-high, bit-none}
+use Rattle.mesh.specs.Rights.{canRead, canWrite}
+use Rattle.mesh.specs.Table.{rowOf}
+use Rattle.mesh.specs.Flow.{Rights, rightAt, rights, Source}
+use Rattle.mesh.specs.Followers.{Follows, Followers}
+use Rattle.mesh.specs.Sets.{bit, flag, meets, setOf}
+use Rattle.mesh.specs.Touched.{Touches, feeds}
+use Rattle.mesh.proofs.SetLaws.{setOf-bit, setOf-lt, setOf-within, bit-high, bit-none, meets-found, meets-at, empty-has-none}
 
 -- the right in a row that is read
 pub right-at : {W : Type 0} (rows : List (Row W)) (i : ℕ) (x : Row W) → i < length rows → rightAt rows i ≡ getD rows i x .right
@@ -81,3 +86,71 @@ touched test none s rows xs le f d p = go (ltb d (s .devices)) refl (ltb p (s .p
         let l = ltb-true d (s .devices) t in
         ap (λ w. bit w p) (at (omega arith) true t) ∙ bit-high (s .points) _ p (setOf-lt _ (s .points)) (ltb-false p (s .points) u) ∙ ap flag (sym none)
     go false t c u = ap (λ w. bit w p) (past t (cases-lt d 64)) ∙ bit-none p ∙ ap flag (sym none)
+
+-- ---- followers
+
+flag-true : (b : Bool) → flag b ≡ 1 → b ≡ true
+flag-true true e = refl
+flag-true false e = absurd (omega arith)
+
+true-holds : (b : Bool) → b ≡ true → T b
+true-holds b e = subst T (sym e) tt
+
+holds-true : (b : Bool) → T b → b ≡ true
+holds-true true t = refl
+holds-true false t = absurd t
+
+-- a device that touches a point is in the table
+touching-within : {W : Type 0} (test : Right → Bool) → test Empty ≡ false → (s : Shape) (rows : List (Row W)) (d p : ℕ) → T (test (rights s rows d p)) → d < s .devices
+touching-within test none s rows d p = go (ltb d (s .devices)) refl
+  where
+    go : (b : Bool) → ltb d (s .devices) ≡ b → T (test (cond (b && ltb p (s .points)) (rightAt rows (rowOf s d p)) Empty)) → d < s .devices
+    go true t h = ltb-true d (s .devices) t
+    go false t h = absurd (subst T none h)
+
+pub source-within : {W : Type 0} (s : Shape) (rows : List (Row W)) (a b : ℕ) → Source (rights s rows) a b → (a < s .devices) × (b < s .devices)
+source-within s rows a b h = (touching-within canWrite refl s rows a (h .point) (h .written), touching-within canRead refl s rows b (h .point) (h .read))
+
+-- what the sets of points say of sources
+pub feeds-source : (g : Rights) (f : Flow) (a b : ℕ) → Touches g f → feeds f a b ≡ true → Source g a b
+feeds-source g f a b t e =
+    let both = and-parts (not (eqb a b)) (meets (getD (f .writes) a 0) (getD (f .reads) b 0)) e in
+    let m = meets-found (getD (f .writes) a 0) (getD (f .reads) b 0) (both .1) in
+    record {
+      apart = eqb-false a b (not-true (eqb a b) (both .0));
+      point = m .0;
+      written = true-holds _ (flag-true _ (sym (t .writing a (m .0)) ∙ m .1));
+      read = true-holds _ (flag-true _ (sym (t .reading b (m .0)) ∙ m .2));
+    }
+
+pub source-feeds : (g : Rights) (f : Flow) (a b : ℕ) → Touches g f → Source g a b → feeds f a b ≡ true
+source-feeds g f a b t h =
+    let w = t .writing a (h .point) ∙ ap flag (holds-true _ (h .written)) in
+    let r = t .reading b (h .point) ∙ ap flag (holds-true _ (h .read)) in
+    ap₂ (λ x y. not x && y) (ne-eqb a b (h .apart)) (meets-at (getD (f .writes) a 0) (getD (f .reads) b 0) (h .point) w r)
+
+module _ {W : Type 0} (s : Shape) (rows : List (Row W)) (f : Flow) (words : List ℕ) (le : s .devices ≤ 64) (t : Touches (rights s rows) f)
+    (filled : FilledTo (λ a. setOf (feeds f a) (s .devices)) (s .devices) words) where
+  pub words-past : (a : ℕ) → s .devices ≤ a → getD words a 0 ≡ 0
+  words-past a h = go (cases-lt a 64)
+    where
+      go : (a < 64) ⊎ (64 ≤ a) → getD words a 0 ≡ 0
+      go (inl l) = filled .1 a l ∙ ap (λ b. cond b (setOf (feeds f a) (s .devices)) 0) (le-ltb a (s .devices) h)
+      go (inr g) = let e = filled .0 in getD-past words a 0 (omega arith)
+
+  words-at : (a : ℕ) → a < s .devices → getD words a 0 ≡ setOf (feeds f a) (s .devices)
+  words-at a h = filled .1 a (omega arith) ∙ ap (λ b. cond b (setOf (feeds f a) (s .devices)) 0) (lt-ltb a (s .devices) h)
+
+  pub words-followers : Followers (rights s rows) words
+  words-followers = record {
+    sound = λ a b m. feeds-source (rights s rows) f a b t (member a b (cases-lt a (s .devices)) m);
+    whole = λ a b h.
+        let w = source-within s rows a b h in
+        ap (λ x. bit x b) (words-at a (w .0)) ∙ setOf-bit (feeds f a) (s .devices) b (w .1) ∙ ap flag (source-feeds (rights s rows) f a b t h);
+  }
+    where
+      member : (a b : ℕ) → (a < s .devices) ⊎ (s .devices ≤ a) → Follows words a b → feeds f a b ≡ true
+      member a b (inl l) m =
+          let i = ap (λ x. bit x b) (sym (words-at a l)) ∙ m in
+          flag-true _ (sym (setOf-bit (feeds f a) (s .devices) b (setOf-within (feeds f a) (s .devices) b i)) ∙ i)
+      member a b (inr g) m = absurd (empty-has-none (getD words a 0) b (words-past a g) m)

@@ -1,6 +1,6 @@
 -- The laws of a set of numbers below 64 as one word.
 use mathlib.Core.Path.{_≡_, refl, sym, ap, ap₂, _∙_, subst}
-use mathlib.Core.Bool.{Bool, true, false, cond}
+use mathlib.Core.Bool.{Bool, true, false, not}
 use mathlib.Core.Logic.{_⊎_, inl, inr}
 use Prim.Native.Nat.{ℕ, zero, suc, _+_, _-_, _*_, _/_, _%_, _^_, _≤_, _<_, min, max}
 use native.Mathlib.Nat.{mod-lt, pow-suc, div-eq-of-lt, zero-div, one-mul, eq-or-lt-of-le, add-comm, mul-assoc, zero-mul, lt-of-lt-of-le, zero-add, le-of-suc-le-suc, not-suc-le-zero, div-one}
@@ -11,9 +11,9 @@ use lib.Arith.{digits-mod, bin-ind}
 use lib.Pow.{pow-pos, pow-mono, pow-lt, shr-shr}
 use lib.Bits.{bitAnd, bitOr, and-step, or-step, and-shr, or-shr, or-shifted, or-shifted-r, and-mask, and-le-l, or-lt}
 use lib.Count.{ones, onesIn, ones-step, ones-cat, trailingZeros, under}
-use borrow.Author.Tests.{eq-eqb, ne-eqb, eqb-true}
-use Rattle.std.proofs.shelf.Tests.{cases-lt}
-use Rattle.mesh.specs.Sets.{bit, flag, has, setOf, countOf}
+use borrow.Author.Tests.{eq-eqb, ne-eqb, eqb-true, eqb-false}
+use Rattle.std.proofs.shelf.Tests.{cases-lt, not-true}
+use Rattle.mesh.specs.Sets.{bit, flag, has, meets, setOf, countOf}
 
 pub bit-lt : (w i : ℕ) → bit w i < 2
 unfolding bit
@@ -358,8 +358,12 @@ no-ones w i h z = go (bit w i) refl (cases-lt i 64)
         let o = ones-without i w l h (omega arith) in
         absurd (omega arith)
 
-pub some-member : (w : ℕ) → 0 < w → w < 2 ^ 64 → (i : ℕ) × (bit w i ≡ 1)
-some-member w p h = (trailingZeros 64 w, trailing-at 64 w (trailing-lt 64 w p h))
+lt-pow : (n : ℕ) → n < 2 ^ n
+lt-pow zero = lit< tt
+lt-pow (suc n) = let h = lt-pow n in let p = pow-suc 2 n in omega arith
+
+pub some-member : (w : ℕ) → 0 < w → (i : ℕ) × (bit w i ≡ 1)
+some-member w p = (trailingZeros w w, trailing-at w w (trailing-lt w w p (lt-pow w)))
 
 pub bit-choice : (w i : ℕ) → (bit w i ≡ 0) ⊎ (bit w i ≡ 1)
 bit-choice w i = go (bit w i) refl
@@ -367,3 +371,19 @@ bit-choice w i = go (bit w i) refl
     go : (d : ℕ) → bit w i ≡ d → (bit w i ≡ 0) ⊎ (bit w i ≡ 1)
     go zero e = inl e
     go (suc d) e = let l = bit-lt w i in inr (omega arith)
+
+pub meets-found : (v w : ℕ) → meets v w ≡ true → (i : ℕ) × (bit v i ≡ 1) × (bit w i ≡ 1)
+meets-found v w t =
+    let x = bitAnd v w in
+    let ne = eqb-false x 0 (not-true (eqb x 0) t) in
+    let m = some-member x (omega arith) in
+    let a = bit-and v w (m .0) in
+    let hv = bit-lt v (m .0) in
+    let hw = bit-lt w (m .0) in
+    let e = m .1 in
+    (m .0, omega arith, omega arith)
+
+pub meets-at : (v w i : ℕ) → bit v i ≡ 1 → bit w i ≡ 1 → meets v w ≡ true
+meets-at v w i mv mw =
+    let a = bit-and v w i in
+    ap not (ne-eqb (bitAnd v w) 0 (λ z. empty-has-none (bitAnd v w) i z (omega arith)))

@@ -1,5 +1,6 @@
 // The words of the subject: refusals, rights, rows, weights, and the flow between devices.
 mod flow;
+pub mod followers;
 pub mod reach;
 pub mod refusal;
 pub mod right;

@@ -1,11 +1,11 @@
 // Sets of devices or points as words: all bit operations stand here.
 ghost use mathlib.Core.Path.{_≡_};
-ghost use mathlib.Core.Bool.{Bool, true, cond};
-ghost use Prim.Native.Nat.{ℕ, _+_, _-_, _^_, _<_, _≤_, min, max};
+ghost use mathlib.Core.Bool.{Bool};
+ghost use Prim.Native.Nat.{ℕ, _+_, _-_, _^_, _<_, _≤_, max};
 ghost use lib.Bits.{bitOr};
 ghost use lib.Count.{ones};
 ghost use lib.Dec.{eqb};
-ghost use Rattle.mesh.specs.Sets.{Member, bit, has, flag, setOf, countOf};
+ghost use Rattle.mesh.specs.Sets.{Member, bit, has, flag, setOf, countOf, meets};
 
 // Whether a number is a member.
 pub(crate) fn member(set: u64, number: usize) -> bool
@@ -51,8 +51,7 @@ pub(crate) fn minus(set: u64, other: u64) -> u64
 
 // Whether two sets have a member in common.
 pub(crate) fn meet(set: u64, other: u64) -> bool
-    ensures found { λ r. ⌜ (r ≡ true → (i : ℕ) × Member i set × Member i other) ⌝ }
-    ensures finds { λ r. ⌜ ((i : ℕ) → Member i set → Member i other → r ≡ true) ⌝ }
+    ensures value { λ r. ⌜ r ≡ meets set other ⌝ }
 {
     set & other != 0
 }
