@@ -1,2 +1,4 @@
 pub mod SetLaws
 pub mod FlowLaws
+pub mod ReachLaws
+pub mod OrderLaws

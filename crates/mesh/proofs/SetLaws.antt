@@ -127,6 +127,10 @@ ones-or-and a =
     let pa = and-step n b in
     omega arith) a
 
+pub ones-zero : ones 0 ≡ 0
+unfolding ones onesIn
+ones-zero = refl
+
 pub ones-pow : (k : ℕ) → ones (2 ^ k) ≡ 1
 unfolding ones onesIn
 ones-pow zero = refl
@@ -387,3 +391,7 @@ pub meets-at : (v w i : ℕ) → bit v i ≡ 1 → bit w i ≡ 1 → meets v w �
 meets-at v w i mv mw =
     let a = bit-and v w i in
     ap not (ne-eqb (bitAnd v w) 0 (λ z. empty-has-none (bitAnd v w) i z (omega arith)))
+
+-- what the test of a member tells
+pub not-member : (w i : ℕ) → eqb (bit w i) 1 ≡ false → bit w i ≡ 0
+not-member w i h = let l = bit-lt w i in let n = eqb-false (bit w i) 1 h in omega arith

@@ -7,5 +7,7 @@ pub mod Sets
 pub mod Flow
 pub mod Touched
 pub mod Followers
+pub mod Visit
 pub mod Reach
 pub mod Order
+pub mod Listing

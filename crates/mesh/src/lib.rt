@@ -1,6 +1,7 @@
 // The words of the subject: refusals, rights, rows, weights, and the flow between devices.
 mod flow;
 pub mod followers;
+pub mod order;
 pub mod reach;
 pub mod refusal;
 pub mod right;

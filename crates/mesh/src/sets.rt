@@ -42,6 +42,13 @@ pub(crate) fn without(set: u64, number: usize) -> u64
     set & !(1 << number)
 }
 
+// The members of either set.
+pub(crate) fn union(set: u64, other: u64) -> u64
+    ensures members { λ r. ⌜ ((i : ℕ) → bit r i ≡ max (bit set i) (bit other i)) ⌝ }
+{
+    set | other
+}
+
 // The members of one set that are not in the other.
 pub(crate) fn minus(set: u64, other: u64) -> u64
     ensures members { λ r. ⌜ ((i : ℕ) → bit r i ≡ bit set i - bit other i) ⌝ }
