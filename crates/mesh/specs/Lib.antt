@@ -3,3 +3,4 @@ pub mod Rights
 pub mod Table
 pub mod Kind
 pub mod Rows
+pub mod Kinds

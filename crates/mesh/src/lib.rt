@@ -1,7 +1,11 @@
 // The words of the subject: refusals, rights, rows, weights, and the flow between devices.
+mod amounts;
+mod decimal;
+pub mod peak;
 pub mod refusal;
 pub mod right;
 pub mod row;
 pub mod shape;
+pub mod sum;
 mod table;
 pub mod weight;
