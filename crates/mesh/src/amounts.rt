@@ -6,7 +6,7 @@ ghost use Rattle.mesh.specs.Kinds.{admitted, amountOf};
 pub(crate) fn is_admitted(number: u64) -> bool
     ensures value { λ r. ⌜ r ≡ admitted number ⌝ }
 {
-    1 <= number && number <= 1_000_000
+    matches!(number, 1..=1_000_000)
 }
 
 // The number as an amount, 0 where it is none. Constant time.

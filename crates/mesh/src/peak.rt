@@ -6,8 +6,8 @@ use super::decimal::write_decimal;
 use super::refusal::Refusal;
 use super::weight::Weight;
 
-// Any stored number is a weight, and counts as it is. A join is one of the two weights and so never outgrows an
-// amount: 32 bits do, and a row takes half the memory that it would with 64.
+// Any stored number is a weight, and counts as it is. A join is one of its two weights, so 32 bits hold all that
+// amounts can make, and a row takes half the memory that it would with 64.
 #[derive(Clone, Copy, PartialEq, Eq, Debug)]
 pub struct Peak {
     pub value: u32,

@@ -14,7 +14,7 @@ pub struct Steps {
 fn is_admitted(number: u32) -> bool
     ensures value { λ r. ⌜ r ≡ admitted number ⌝ }
 {
-    1 <= number && number <= 9 || 20 <= number && number <= 29
+    matches!(number, 1..=9 | 20..=29)
 }
 
 impl Steps {
