@@ -1,3 +1,5 @@
+-- The lemmas that the functions' proofs share.
+mod Digits
 pub mod SetLaws
 pub mod FlowLaws
 pub mod ReachLaws

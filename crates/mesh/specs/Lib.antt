@@ -1,7 +1,9 @@
+-- The definitions that the contracts cite.
 pub mod Refusals
 pub mod Rights
 pub mod Table
 pub mod Kind
+pub mod Kinds
 pub mod Rows
 pub mod Sets
 pub mod Flow
