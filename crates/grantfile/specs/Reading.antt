@@ -1,11 +1,12 @@
 -- What the reader's calls answer, and what they leave.
+--     EntryRead bytes s n rest    the contents entry at the front of the bytes: start, count, and the bytes that follow
 --     Headed kind file r          the head is checked
 --     Opened kind file r          head, contents and end are checked
 --     Shown file d r              the body of device d, as a part of the file
 --     Filled k s file rows        each grant of the file stands in its row, and every other row of the table is empty
 --     ReadInto k file m m′ r      the whole file is checked, and then the rows filled, m before and m′ after
 use mathlib.Core.Path.{_≡_}
-use mathlib.Core.List.{List, _++_}
+use mathlib.Core.List.{List, [], _++_}
 use Prim.Native.Nat.{ℕ, _+_, _*_, _<_, _≤_}
 use lib.ListN.{length, getD, take, drop}
 use Rattle.std.specs.declared.option.Option.the-variants.{Some, None}
@@ -19,12 +20,17 @@ use Rattle.mesh.specs.Rows.{emptyRow, grantRow}
 use Rattle.mesh.specs.Table.{rowOf, rowsOf}
 use Rattle.mesh.specs.Kind.{Kind}
 use Rattle.grantfile.specs.declared.fault.Fault.{Fault}
-use Rattle.grantfile.specs.Format.{devicesOf, pointsOf, countOf, grantAt, pointAt, letterAt, amountAt}
+use Rattle.grantfile.specs.Format.{byteAt, wordAt, devicesOf, pointsOf, countOf, grantAt, pointAt, letterAt, amountAt}
 use Rattle.grantfile.specs.Tests.{first, headTests, contentsTests, allTests}
 
 -- the shape is the one that the file names
 abbrev pub ShapeOf : List ℕ → Shape → Type 0
 ShapeOf file s = (s .devices ≡ devicesOf file) × (s .points ≡ pointsOf file)
+
+-- from fewer than three bytes zeros and no bytes
+pub record EntryRead (bytes : List ℕ) (start count : ℕ) (rest : List ℕ) : Type 0 where
+  pub whole : 3 ≤ length bytes → (start ≡ wordAt bytes 0) × (count ≡ byteAt bytes 2) × (rest ≡ drop 3 bytes)
+  pub short : length bytes < 3 → (start ≡ 0) × (count ≡ 0) × (rest ≡ [])
 
 abbrev pub Headed : ℕ → List ℕ → Result Shape Fault → Type 0
 Headed kind file (Ok s) = (first (headTests kind file) ≡ None) × ShapeOf file s
