@@ -1,5 +1,13 @@
 // The contents of a file, entry by entry.
+ghost use mathlib.Core.Path.{_≡_};
+ghost use Prim.Native.Nat.{_≤_};
+ghost use lib.ListN.{length};
+ghost use Rattle.grantfile.specs.Format.{devicesOf, entryAt};
+ghost use Rattle.grantfile.specs.Inner.{EntriesChecked};
 ghost use Rattle.grantfile.specs.Reading.{EntryRead};
+use super::fault::Fault;
+use super::fault::Layer;
+use mesh::refusal::Refusal;
 
 // The start and the count of the contents entry at the front of the bytes, and the bytes that follow it;
 // from fewer than three bytes zeros and no bytes. Constant time.
@@ -10,4 +18,27 @@ pub fn entry(bytes: &[u8]) -> (u16, u8, &[u8])
         [high, low, count, rest @ ..] => (u16::from(*high) * 256 + u16::from(*low), *count, rest),
         _ => (0, 0, &[]),
     }
+}
+
+// The end of the last body, where each entry starts where the body before it ends; else refused 6 at the first
+// entry that does not. One step for each device.
+pub(super) fn check_entries(file: &[u8], devices: usize) -> Result<usize, Fault>
+    requires { ⌜ devices ≡ devicesOf (now file) ⌝ ∗ ⌜ devices ≤ 64 ⌝ ∗ ⌜ entryAt devices ≤ length (now file) ⌝ }
+    ensures cases { λ r. ⌜ EntriesChecked (now (file .entry)) r ⌝ }
+{
+    let mut rest = &file[4..];
+    let mut end = 4 + 3 * devices;
+    for d in 0..devices {
+        let (start, count, after) = entry(rest);
+        if usize::from(start) != end {
+            return Err(Fault {
+                why: Refusal::WrongStart,
+                place: 4 + 3 * d,
+                layer: Layer::Contents,
+            });
+        }
+        rest = after;
+        end += 6 * usize::from(count);
+    }
+    Ok(end)
 }
