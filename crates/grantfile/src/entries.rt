@@ -3,7 +3,7 @@ ghost use mathlib.Core.Path.{_≡_};
 ghost use Prim.Native.Nat.{_≤_};
 ghost use lib.ListN.{length};
 ghost use Rattle.grantfile.specs.Format.{devicesOf, entryAt};
-ghost use Rattle.grantfile.specs.Inner.{EntriesChecked};
+ghost use Rattle.grantfile.specs.Inner.{ContentsChecked, EntriesChecked};
 ghost use Rattle.grantfile.specs.Reading.{EntryRead};
 use super::fault::Fault;
 use super::fault::Layer;
@@ -31,14 +31,26 @@ pub(super) fn check_entries(file: &[u8], devices: usize) -> Result<usize, Fault>
     for d in 0..devices {
         let (start, count, after) = entry(rest);
         if usize::from(start) != end {
-            return Err(Fault {
-                why: Refusal::WrongStart,
-                place: 4 + 3 * d,
-                layer: Layer::Contents,
-            });
+            return Err(Fault::of(Layer::Contents, Refusal::WrongStart, 4 + 3 * d));
         }
         rest = after;
         end += 6 * usize::from(count);
     }
     Ok(end)
+}
+
+// Checks that the contents are whole (else refused 5), that each entry starts where the body before it ends (6),
+// and that the file ends with its last body (7), in this order. One step for each device.
+pub(super) fn check_contents(file: &[u8], devices: usize) -> Result<(), Fault>
+    requires { ⌜ devices ≡ devicesOf (now file) ⌝ ∗ ⌜ devices ≤ 64 ⌝ }
+    ensures cases { λ r. ⌜ ContentsChecked (now (file .entry)) r ⌝ }
+{
+    if file.len() < 4 + 3 * devices {
+        return Err(Fault::of(Layer::Contents, Refusal::ShortContents, file.len()));
+    }
+    let end = check_entries(file, devices)?;
+    if file.len() != end {
+        return Err(Fault::of(Layer::Contents, Refusal::WrongEnd, file.len().min(end)));
+    }
+    Ok(())
 }

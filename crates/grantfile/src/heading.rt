@@ -1,6 +1,4 @@
 // The first four bytes of a file.
-ghost use mathlib.Core.Path.{_≡_};
-ghost use Rattle.grantfile.specs.declared.fault.Layer.the-variants as layers;
 ghost use Rattle.grantfile.specs.Reading.{Headed};
 use super::fault::Fault;
 use super::fault::Layer;
@@ -15,28 +13,17 @@ pub fn head(kind: u8, file: &[u8]) -> Result<Shape, Fault>
     match file {
         [magic, found, devices, points, _rest @ ..] if *magic == 0x47 => {
             if *found != kind {
-                return Err(wrong(Refusal::WrongHead, 1));
+                return Err(Fault::of(Layer::Head, Refusal::WrongHead, 1));
             }
             match Shape::new(*devices, *points) {
                 Ok(shape) => Ok(shape),
                 Err(why) => {
                     let place = if *devices < 1 || *devices > 64 { 2 } else { 3 };
-                    Err(wrong(why, place))
+                    Err(Fault::of(Layer::Head, why, place))
                 }
             }
         }
-        [_, _, _, _, ..] => Err(wrong(Refusal::WrongHead, 0)),
-        _ => Err(wrong(Refusal::ShortFile, file.len())),
-    }
-}
-
-// A fault that the head's layer finds.
-fn wrong(why: Refusal, place: usize) -> Fault
-    ensures value { λ r. ⌜ r ≡ record { why = why; place = place; layer = layers.Head } ⌝ }
-{
-    Fault {
-        why,
-        place,
-        layer: Layer::Head,
+        [_, _, _, _, ..] => Err(Fault::of(Layer::Head, Refusal::WrongHead, 0)),
+        _ => Err(Fault::of(Layer::Head, Refusal::ShortFile, file.len())),
     }
 }

@@ -5,6 +5,7 @@ use Prim.Native.Nat.{ℕ, _+_, _-_, _*_, _<_, _≤_}
 use native.Mathlib.Omega.{arith}
 use lib.ListN.{length}
 use Rattle.std.specs.Iters.{counting}
+use Rattle.std.specs.declared.option.Option.the-variants.{Some}
 use Rattle.std.proofs.shelf.Lists.{take-rest}
 use Rattle.std.proofs.shelf.Tests.{eq-eqb, ne-eqb, not-from-true, not-from-false, cond-true, cond-false}
 use Rattle.grantfile.specs.Format.{bodyAt, entryAt, startOf, countOf, devicesOf}
@@ -50,4 +51,4 @@ returns-then-from-end c =
     let e = entry-there file (c .loop-d .rest .now) (c .entry-start .result .2 .now) d (c .entry-start .result .0) (c .entry-start .result .1) (c .loop-d .inv .0) h (c .entry-start .ensures .whole) in
     let s = each-step (entryTest file) d (c .args .devices) (c .loop-d-test .taken) in
     let other : startOf file d ≡ bodyAt file d → ⊥ = λ same. omega (arith, c .if-from-end .taken) in
-    record { cases = c .loop-d .inv .3 ∙ s ∙ cond-true _ _ _ (not-from-false _ (ne-eqb _ _ other)) }
+    record { cases = c .loop-d .inv .3 ∙ s ∙ cond-true _ _ _ (not-from-false _ (ne-eqb _ _ other)) ∙ ap Some (sym (c .of .ensures .value)) }
