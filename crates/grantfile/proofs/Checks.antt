@@ -2,13 +2,16 @@
 use mathlib.Core.Path.{_≡_, refl, sym, _∙_, ap}
 use mathlib.Core.List.{List, [], _∷_, _++_}
 use Prim.Native.Nat.{ℕ, _+_, _*_, _<_, _≤_}
-use lib.ListN.{length}
+use native.Mathlib.Omega.{arith}
+use lib.ListN.{length, drop}
 use Rattle.std.specs.declared.option.Option.the-variants.{Some, None}
-use Rattle.std.proofs.shelf.Tests.{le-ltb, cond-false}
+use Rattle.std.proofs.shelf.Tests.{le-ltb, ltb-false, eqb-true, not-false, cond-false}
 use Rattle.grantfile.specs.declared.fault.Fault.{Fault}
-use Rattle.grantfile.specs.Format.{devicesOf, entryAt}
-use Rattle.grantfile.specs.Tests.{first, entriesTests, endTest, contentsTests}
-use Rattle.grantfile.proofs.Firsts.{first-past, first-stop}
+use Rattle.grantfile.specs.Format.{devicesOf, entryAt, startOf, countOf, bodyAt}
+use Rattle.grantfile.specs.Reading.{EntryRead}
+use Rattle.grantfile.specs.Tests.{first, entryTest, entriesTests, endTest, contentsTests}
+use Rattle.grantfile.proofs.Firsts.{under, first-past, first-stop, first-front, first-back, each-passed}
+use Rattle.grantfile.proofs.Places.{body-next, body-rises, entry-there}
 
 whole : (file : List ℕ) → entryAt (devicesOf file) ≤ length file → first (contentsTests file) ≡ first (entriesTests file ++ endTest file ∷ [])
 whole file h = cond-false _ _ _ (le-ltb _ _ h)
@@ -20,3 +23,32 @@ entries-stop file f h e = whole file h ∙ first-stop (entriesTests file) (endTe
 -- whole contents with right entries
 pub entries-past : (file : List ℕ) → entryAt (devicesOf file) ≤ length file → first (entriesTests file) ≡ None → first (contentsTests file) ≡ first (endTest file ∷ [])
 entries-past file h e = whole file h ∙ first-past (entriesTests file) (endTest file ∷ []) e
+
+-- what contents that pass say: they are whole, each body starts where its entry says, and lies within the file
+pub passed-whole : (file : List ℕ) → first (contentsTests file) ≡ None → entryAt (devicesOf file) ≤ length file
+passed-whole file e = ltb-false _ _ (under _ _ _ e .0)
+
+right : (file : List ℕ) → first (contentsTests file) ≡ None → first (entriesTests file ++ endTest file ∷ []) ≡ None
+right file e = under _ _ _ e .1
+
+pub passed-start : (file : List ℕ) (d : ℕ) → first (contentsTests file) ≡ None → d < devicesOf file → startOf file d ≡ bodyAt file d
+passed-start file d e h =
+    eqb-true _ _ (not-false _ (each-passed (entryTest file) (devicesOf file) d h (first-front (entriesTests file) (endTest file ∷ []) (right file e))))
+
+pub passed-end : (file : List ℕ) → first (contentsTests file) ≡ None → length file ≡ bodyAt file (devicesOf file)
+passed-end file e = eqb-true _ _ (not-false _ (under _ _ _ (first-back (entriesTests file) (endTest file ∷ []) (right file e)) .0))
+
+pub passed-within : (file : List ℕ) (d : ℕ) → first (contentsTests file) ≡ None → d < devicesOf file → bodyAt file d + 6 * countOf file d ≤ length file
+passed-within file d e h =
+    let n = body-next file d in
+    let m = body-rises file (d + 1) (devicesOf file) (omega arith) in
+    let l = passed-end file e in
+    omega arith
+
+-- an entry read in its place, of contents that pass
+pub passed-entry : (file bytes rest : List ℕ) (d start count : ℕ) → first (contentsTests file) ≡ None → d < devicesOf file → bytes ≡ drop (entryAt d) file
+    → EntryRead bytes start count rest → (start ≡ bodyAt file d) × (count ≡ countOf file d) × (rest ≡ drop (entryAt (d + 1)) file)
+passed-entry file bytes rest d start count e h b r =
+    let w = passed-whole file e in
+    let t = entry-there file bytes rest d start count b (omega arith) r in
+    (t .0 ∙ passed-start file d e h, t .1, t .2)

@@ -1,17 +1,16 @@
 -- The first test that fails: in two lists after one another, and in a list made index by index.
 use mathlib.Core.Path.{_≡_, refl, sym, _∙_, ap}
-use mathlib.Core.Bool.{Bool, true, false, cond, not}
+use mathlib.Core.Bool.{Bool, true, false, cond}
 use mathlib.Core.List.{List, [], _∷_, _++_, map}
 use Prim.Native.Nat.{ℕ, zero, suc, _+_, _-_, _<_, _≤_}
 use native.Mathlib.Omega.{arith}
 use lib.ListN.{length}
 use Rattle.std.specs.Iters.{counting}
 use Rattle.std.specs.Joined.{joined}
-use Rattle.std.specs.Options.{isSome}
 use Rattle.std.specs.declared.option.Option.{Option}
 use Rattle.std.specs.declared.option.Option.the-variants.{Some, None}
 use Rattle.grantfile.specs.declared.fault.Fault.{Fault}
-use Rattle.grantfile.specs.Tests.{Test, first, passes}
+use Rattle.grantfile.specs.Tests.{Test, first}
 
 -- one test, and what the tests after it give
 past : (b : Bool) (f : Fault) (o p z : Option Fault) → (o ≡ None → p ≡ z) → cond b (Some f) o ≡ None → cond b (Some f) p ≡ z
@@ -22,7 +21,7 @@ stop : (b : Bool) (f g : Fault) (o p : Option Fault) → (o ≡ Some g → p ≡
 stop true f g o p h e = e
 stop false f g o p h e = h e
 
-under : (b : Bool) (f : Fault) (o : Option Fault) → cond b (Some f) o ≡ None → (b ≡ false) × (o ≡ None)
+pub under : (b : Bool) (f : Fault) (o : Option Fault) → cond b (Some f) o ≡ None → (b ≡ false) × (o ≡ None)
 under true f o e = absurd (let z : _≡_ {A = ℕ} 0 1 = cc in omega arith)
 under false f o e = (refl, e)
 
@@ -43,13 +42,6 @@ first-front (t ∷ ts) ys e = past (t .fails) (t .fault) (first (ts ++ ys)) (fir
 
 pub first-back : (xs ys : List Test) → first (xs ++ ys) ≡ None → first ys ≡ None
 first-back xs ys e = sym (first-past xs ys (first-front xs ys e)) ∙ e
-
-pub from-passes : (ts : List Test) → passes ts ≡ true → first ts ≡ None
-from-passes ts e = go (first ts) e
-  where
-    go : (o : Option Fault) → not (isSome o) ≡ true → o ≡ None
-    go None e = refl
-    go (Some f) e = absurd (let z : _≡_ {A = ℕ} 0 1 = cc in omega arith)
 
 -- what is left of a count from i, at i and at the end
 pub counting-step : (i n : ℕ) → i < n → counting i (n - i) ≡ i ∷ counting (i + 1) (n - (i + 1))

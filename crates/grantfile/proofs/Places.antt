@@ -17,6 +17,17 @@ pub body-next : (file : List ℕ) (d : ℕ) → bodyAt file (d + 1) ≡ bodyAt f
 unfolding bodyAt
 body-next file d = rw add-one refl
 
+climbs : (file : List ℕ) (d k : ℕ) → bodyAt file d ≤ bodyAt file (d + k)
+climbs file d zero = let z : d + 0 ≡ d = omega arith in rw z (omega arith)
+climbs file d (suc k) =
+    let z : d + suc k ≡ (d + k) + 1 = omega arith in
+    let n = body-next file (d + k) in
+    let m = climbs file d k in
+    rw z (omega arith)
+
+pub body-rises : (file : List ℕ) (d e : ℕ) → d ≤ e → bodyAt file d ≤ bodyAt file e
+body-rises file d e h = let z : d + (e - d) ≡ e = omega arith in rw z at (climbs file d (e - d))
+
 -- the entry of device d, read from the bytes that begin with it
 pub entry-there : (file bytes rest : List ℕ) (d start count : ℕ) → bytes ≡ drop (entryAt d) file → entryAt (d + 1) ≤ length file → EntryRead bytes start count rest
     → (start ≡ startOf file d) × (count ≡ countOf file d) × (rest ≡ drop (entryAt (d + 1)) file)

@@ -1,8 +1,9 @@
 -- What the reader's calls answer, and what they leave.
 --     EntryRead bytes s n rest    the contents entry at the front of the bytes: start, count, and the bytes that follow
 --     Headed kind file r          the head is checked
---     Opened kind file r          head, contents and end are checked
---     Shown file s d r            the body of device d, as a part of the file
+--     Opened kind file r          head, contents and end are checked, and the file is held with the size of its table
+--     Sound g                     the file is one whose contents and end pass, as every file is that was opened
+--     Shown file d r              the body of device d, as a part of the file
 --     Filled k s file rows        each grant of the file stands in its row, and every other row of the table is empty
 --     ReadInto k file m m′ r      the whole file is checked, and then the rows filled, m before and m′ after
 use mathlib.Core.Path.{_≡_}
@@ -25,7 +26,7 @@ use Rattle.grantfile.specs.declared.fault.Fault.{Fault}
 use Rattle.grantfile.specs.declared.fault.Layer.the-variants as layer
 use Rattle.grantfile.specs.declared.file.Body.{Body}
 use Rattle.grantfile.specs.declared.file.GrantFile.{GrantFile}
-use Rattle.grantfile.specs.Format.{byteAt, wordAt, ShapeOf, bodyAt, countOf, grantAt, pointAt, letterAt, amountAt}
+use Rattle.grantfile.specs.Format.{byteAt, wordAt, ShapeOf, devicesOf, pointsOf, bodyAt, countOf, grantAt, pointAt, letterAt, amountAt}
 use Rattle.grantfile.specs.Tests.{first, headTests, contentsTests, allTests}
 
 -- from fewer than three bytes zeros and no bytes
@@ -39,14 +40,18 @@ Headed kind file (Err f) = first (headTests kind file) ≡ Some f
 
 abbrev pub Opened : ℕ → List ℕ → Result GrantFile Fault → Type 0
 Opened kind file (Ok g) =
-    (first (headTests kind file ++ contentsTests file) ≡ None) × (now (g .bytes) ≡ file) × ShapeOf file (g .shape)
+    (first (headTests kind file ++ contentsTests file) ≡ None)
+    × (now (g .bytes) ≡ file) × (g .devices ≡ devicesOf file) × (g .points ≡ pointsOf file)
 Opened kind file (Err f) = first (headTests kind file ++ contentsTests file) ≡ Some f
 
+abbrev pub Sound : GrantFile → Type 0
+Sound g = (first (contentsTests (now (g .bytes))) ≡ None) × (g .devices ≡ devicesOf (now (g .bytes)))
+
 -- a device outside the table is refused at place 0
-abbrev pub Shown : List ℕ → Shape → ℕ → Result Body Fault → Type 0
-Shown file s d (Ok b) =
-    (d < s .devices) × (now (b .bytes) ≡ take (6 * countOf file d) (drop (bodyAt file d) file)) × (b .place ≡ bodyAt file d)
-Shown file s d (Err f) = (s .devices ≤ d) × (f ≡ record { why = OutsideTable; place = 0; layer = layer.Body })
+abbrev pub Shown : List ℕ → ℕ → Result Body Fault → Type 0
+Shown file d (Ok b) =
+    (d < devicesOf file) × (now (b .bytes) ≡ take (6 * countOf file d) (drop (bodyAt file d) file)) × (b .place ≡ bodyAt file d)
+Shown file d (Err f) = (devicesOf file ≤ d) × (f ≡ record { why = OutsideTable; place = 0; layer = layer.Body })
 
 pub record Filled {W : Type 0} (k : Kind W) (s : Shape) (file : List ℕ) (rows : List (Row W)) : Type 0 where
   pub named : (d j : ℕ) (r : Right) (x : Row W) → d < s .devices → j < countOf file d → rightOf (letterAt file (grantAt file d j)) ≡ Some r

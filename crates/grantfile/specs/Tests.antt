@@ -1,7 +1,6 @@
 -- What the reader tests, in its order, and what it finds.
 --     Test            a test: whether it fails, and the fault that it then is
 --     first ts        the fault of the first test that fails
---     passes ts       no test fails
 --     headTests       four bytes, the first 47 hexadecimal, the caller's kind, a table's size
 --     rowsTest        as many rows lent as the table has
 --     contentsTests   the contents are whole, each entry starts where the body before it ends, the file ends with the last body
@@ -33,9 +32,6 @@ pub record Test : Type 0 where
 abbrev pub first : List Test → Option Fault
 first [] = None
 first (t ∷ ts) = cond (t .fails) (Some (t .fault)) (first ts)
-
-abbrev pub passes : List Test → Bool
-passes ts = not (isSome (first ts))
 
 abbrev pub test : Bool → Refusal → ℕ → Layer → Test
 test b w i l = record { fails = b; fault = record { why = w; place = i; layer = l } }

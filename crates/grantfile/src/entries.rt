@@ -30,11 +30,11 @@ pub(super) fn check_entries(file: &[u8], devices: usize) -> Result<usize, Fault>
     let mut end = 4 + 3 * devices;
     for d in 0..devices {
         let (start, count, after) = entry(rest);
-        if usize::from(start) != end {
+        if start as usize != end {
             return Err(Fault::of(Layer::Contents, Refusal::WrongStart, 4 + 3 * d));
         }
         rest = after;
-        end += 6 * usize::from(count);
+        end += 6 * count as usize;
     }
     Ok(end)
 }

@@ -43,12 +43,12 @@ returns c =
       );
     }
 
-pub returns-then-from-end : need.returns-then-from-end
-returns-then-from-end c =
+pub returns-then-start-end : need.returns-then-start-end
+returns-then-start-end c =
     let file = c .args .file .now in
     let d = c .loop-d .d in
     let h : entryAt (d + 1) ≤ length file = omega arith in
     let e = entry-there file (c .loop-d .rest .now) (c .entry-start .result .2 .now) d (c .entry-start .result .0) (c .entry-start .result .1) (c .loop-d .inv .0) h (c .entry-start .ensures .whole) in
     let s = each-step (entryTest file) d (c .args .devices) (c .loop-d-test .taken) in
-    let other : startOf file d ≡ bodyAt file d → ⊥ = λ same. omega (arith, c .if-from-end .taken) in
+    let other : startOf file d ≡ bodyAt file d → ⊥ = λ same. omega (arith, c .if-start-end .taken) in
     record { cases = c .loop-d .inv .3 ∙ s ∙ cond-true _ _ _ (not-from-false _ (ne-eqb _ _ other)) ∙ ap Some (sym (c .of .ensures .value)) }
