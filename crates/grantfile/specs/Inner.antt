@@ -2,18 +2,25 @@
 --     EntriesChecked file r    each entry starts where the body before it ends; where the last one ends
 --     ContentsChecked file r   the contents and the end of the file are checked
 --     PartOf bytes i n r       the n bytes from the place i on, if there are as many
+--     GrantRow k file i row    the row is that of the grant at the place i
+--     GrantRead k file s j r   the grant j of the body from s on is checked
 use mathlib.Core.Path.{_≡_}
 use mathlib.Core.List.{List}
-use Prim.Native.Nat.{ℕ, _+_, _<_}
+use Prim.Native.Nat.{ℕ, _+_, _*_, _<_}
 use denote.Ref.{RefT, now}
 use lib.ListN.{length, take, drop}
 use Rattle.std.specs.declared.option.Option.{Option}
 use Rattle.std.specs.declared.option.Option.the-variants.{Some, None}
 use Rattle.std.specs.declared.result.Result.{Result}
 use Rattle.std.specs.declared.result.Result.the-variants.{Ok, Err}
+use Rattle.mesh.specs.declared.right.Right.{Right}
+use Rattle.mesh.specs.declared.row.Row.{Row}
+use Rattle.mesh.specs.Kind.{Kind}
+use Rattle.mesh.specs.Rights.{rightOf}
+use Rattle.mesh.specs.Rows.{grantRow}
 use Rattle.grantfile.specs.declared.fault.Fault.{Fault}
-use Rattle.grantfile.specs.Format.{devicesOf, bodyAt}
-use Rattle.grantfile.specs.Tests.{first, entriesTests, contentsTests}
+use Rattle.grantfile.specs.Format.{devicesOf, bodyAt, letterAt, amountAt}
+use Rattle.grantfile.specs.Tests.{first, entriesTests, contentsTests, grantTests}
 
 abbrev pub EntriesChecked : List ℕ → Result ℕ Fault → Type 0
 EntriesChecked file (Ok end) = (first (entriesTests file) ≡ None) × (end ≡ bodyAt file (devicesOf file))
@@ -26,3 +33,10 @@ ContentsChecked file (Err f) = first (contentsTests file) ≡ Some f
 abbrev pub PartOf : List ℕ → ℕ → ℕ → Option (RefT (List ℕ)) → Type 0
 PartOf bytes i n None = length bytes < i + n
 PartOf bytes i n (Some r) = now r ≡ take n (drop i bytes)
+
+abbrev pub GrantRow : {W : Type 0} → Kind W → List ℕ → ℕ → Row W → Type 0
+GrantRow k file i row = (r : Right) → rightOf (letterAt file i) ≡ Some r → row ≡ grantRow r (k .of (amountAt file i))
+
+abbrev pub GrantRead : {W : Type 0} → Kind W → List ℕ → ℕ → ℕ → Result (Row W) Fault → Type 0
+GrantRead k file start j (Ok row) = (first (grantTests k file start j) ≡ None) × GrantRow k file (start + 6 * j) row
+GrantRead k file start j (Err f) = first (grantTests k file start j) ≡ Some f

@@ -68,15 +68,17 @@ contentsTests file =
     test (ltb (length file) (entryAt (devicesOf file))) ShortContents (length file) layer.Contents
     ∷ (entriesTests file ++ endTest file ∷ [])
 
--- the point of the grant j of the body that starts at `start` is not above that of the grant before it
-abbrev pub notRising : List ℕ → ℕ → ℕ → Bool
-notRising file start j = ltb 0 j && leb (pointAt file (start + 6 * j)) (pointAt file (start + 6 * (j - 1)))
+-- the point of the grant j of the body from `start` on is not in the table, or not above that of the grant before it
+abbrev pub outOfOrder : List ℕ → ℕ → ℕ → Bool
+outOfOrder file start j =
+    let point = pointAt file (start + 6 * j) in
+    leb (pointsOf file) point || (ltb 0 j && leb point (pointAt file (start + 6 * (j - 1))))
 
--- the tests of the grant j of the body that starts at `start`
+-- the tests of the grant j of the body from `start` on
 abbrev pub grantTests : {W : Type 0} → Kind W → List ℕ → ℕ → ℕ → List Test
 grantTests k file start j =
     let place = start + 6 * j in
-    test (leb (pointsOf file) (pointAt file place) || notRising file start j) OutsideTable place layer.Body
+    test (outOfOrder file start j) OutsideTable place layer.Body
     ∷ test (not (isSome (rightOf (letterAt file place)))) WrongRight (place + 1) layer.Body
     ∷ test (not (k .admits (amountAt file place))) WrongAmount (place + 2) layer.Weight
     ∷ []

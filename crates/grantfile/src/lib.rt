@@ -1,4 +1,5 @@
 // The grant file: checking its bytes, and filling rows from it.
+mod bodies;
 pub mod entries;
 pub mod fault;
 pub mod file;
