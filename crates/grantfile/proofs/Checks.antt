@@ -4,12 +4,15 @@ use mathlib.Core.List.{List, [], _∷_, _++_}
 use Prim.Native.Nat.{ℕ, _+_, _*_, _<_, _≤_}
 use native.Mathlib.Omega.{arith}
 use lib.ListN.{length, drop}
+use Rattle.std.specs.Iters.{counting}
+use Rattle.std.specs.Joined.{joined}
 use Rattle.std.specs.declared.option.Option.the-variants.{Some, None}
 use Rattle.std.proofs.shelf.Tests.{le-ltb, ltb-false, eqb-true, not-false, cond-false}
+use Rattle.mesh.specs.Kind.{Kind}
 use Rattle.grantfile.specs.declared.fault.Fault.{Fault}
 use Rattle.grantfile.specs.Format.{devicesOf, entryAt, startOf, countOf, bodyAt}
 use Rattle.grantfile.specs.Reading.{EntryRead}
-use Rattle.grantfile.specs.Tests.{first, entryTest, entriesTests, endTest, contentsTests}
+use Rattle.grantfile.specs.Tests.{first, entryTest, entriesTests, endTest, contentsTests, grantTests, bodyTests}
 use Rattle.grantfile.proofs.Firsts.{under, first-past, first-stop, first-front, first-back, each-passed}
 use Rattle.grantfile.proofs.Places.{body-next, body-rises, entry-there}
 
@@ -52,3 +55,10 @@ passed-entry file bytes rest d start count e h b r =
     let w = passed-whole file e in
     let t = entry-there file bytes rest d start count b (omega arith) r in
     (t .0 ∙ passed-start file d e h, t .1, t .2)
+
+-- the tests of a body, by where its entry says that it is
+pub body-tests : {W : Type 0} (k : Kind W) (file : List ℕ) (d start count : ℕ) → start ≡ bodyAt file d → count ≡ countOf file d
+    → first (bodyTests k file d) ≡ first (joined (grantTests k file start) (counting 0 count))
+body-tests k file d start count s n =
+    ap (λ m. first (joined (grantTests k file m) (counting 0 (countOf file d)))) (sym s)
+    ∙ ap (λ m. first (joined (grantTests k file start) (counting 0 m))) (sym n)

@@ -4,9 +4,13 @@
 --     PartOf bytes i n r       the n bytes from the place i on, if there are as many
 --     GrantRow k file i row    the row is that of the grant at the place i
 --     GrantRead k file s j r   the grant j of the body from s on is checked
+--     BodyChecked k file s n r    n grants of the body from s on are checked
+--     BodiesChecked k file r      all bodies are checked
 use mathlib.Core.Path.{_≡_}
 use mathlib.Core.List.{List}
 use Prim.Native.Nat.{ℕ, _+_, _*_, _<_}
+use Rattle.std.specs.Iters.{counting}
+use Rattle.std.specs.Joined.{joined}
 use denote.Ref.{RefT, now}
 use lib.ListN.{length, take, drop}
 use Rattle.std.specs.declared.option.Option.{Option}
@@ -20,7 +24,7 @@ use Rattle.mesh.specs.Rights.{rightOf}
 use Rattle.mesh.specs.Rows.{grantRow}
 use Rattle.grantfile.specs.declared.fault.Fault.{Fault}
 use Rattle.grantfile.specs.Format.{devicesOf, bodyAt, letterAt, amountAt}
-use Rattle.grantfile.specs.Tests.{first, entriesTests, contentsTests, grantTests}
+use Rattle.grantfile.specs.Tests.{first, entriesTests, contentsTests, grantTests, bodiesTests}
 
 abbrev pub EntriesChecked : List ℕ → Result ℕ Fault → Type 0
 EntriesChecked file (Ok end) = (first (entriesTests file) ≡ None) × (end ≡ bodyAt file (devicesOf file))
@@ -40,3 +44,11 @@ GrantRow k file i row = (r : Right) → rightOf (letterAt file i) ≡ Some r →
 abbrev pub GrantRead : {W : Type 0} → Kind W → List ℕ → ℕ → ℕ → Result (Row W) Fault → Type 0
 GrantRead k file start j (Ok row) = (first (grantTests k file start j) ≡ None) × GrantRow k file (start + 6 * j) row
 GrantRead k file start j (Err f) = first (grantTests k file start j) ≡ Some f
+
+abbrev pub BodyChecked : {W : Type 0} → Kind W → List ℕ → ℕ → ℕ → Result (Unit {0}) Fault → Type 0
+BodyChecked k file start n (Ok u) = first (joined (grantTests k file start) (counting 0 n)) ≡ None
+BodyChecked k file start n (Err f) = first (joined (grantTests k file start) (counting 0 n)) ≡ Some f
+
+abbrev pub BodiesChecked : {W : Type 0} → Kind W → List ℕ → Result (Unit {0}) Fault → Type 0
+BodiesChecked k file (Ok u) = first (bodiesTests k file) ≡ None
+BodiesChecked k file (Err f) = first (bodiesTests k file) ≡ Some f

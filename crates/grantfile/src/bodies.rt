@@ -3,9 +3,11 @@ ghost use mathlib.Core.Bool.{not};
 ghost use mathlib.Core.Path.{_≡_};
 ghost use Prim.Native.Nat.{_+_, _*_, _≤_};
 ghost use lib.ListN.{length};
-ghost use Rattle.grantfile.specs.Format.{pointsOf, wordAt, longAt};
-ghost use Rattle.grantfile.specs.Inner.{GrantRead};
-ghost use Rattle.grantfile.specs.Tests.{outOfOrder};
+ghost use Rattle.std.specs.declared.option.Option.the-variants.{None};
+ghost use Rattle.grantfile.specs.Format.{devicesOf, pointsOf, wordAt, longAt};
+ghost use Rattle.grantfile.specs.Inner.{BodiesChecked, BodyChecked, GrantRead};
+ghost use Rattle.grantfile.specs.Tests.{contentsTests, first, outOfOrder};
+use super::entries::entry;
 use super::fault::Fault;
 use super::fault::Layer;
 use mesh::refusal::Refusal;
@@ -60,4 +62,38 @@ pub(super) fn grant<W: Weight>(
         Ok(weight) => Ok(Row::grant(right, weight)),
         Err(why) => Err(Fault::of(Layer::Weight, why, place + 2)),
     }
+}
+
+// Checks `count` grants of the body from `start` on, each by 8, 9 and 10 before the next. One step for each grant.
+fn check_body<W: Weight>(
+    file: &[u8],
+    points: usize,
+    start: usize,
+    count: usize,
+) -> Result<(), Fault>
+    requires { ⌜ points ≡ pointsOf (now file) ⌝ ∗ ⌜ start + 6 * count ≤ length (now file) ⌝ }
+    ensures cases { λ r. ⌜ BodyChecked (W·Weight .meaning) (now (file .entry)) start count r ⌝ }
+{
+    for j in 0..count {
+        grant::<W>(file, points, start, j)?;
+    }
+    Ok(())
+}
+
+// Checks the bodies of a file whose contents pass, device by device. One step for each device and grant.
+pub(super) fn check_bodies<W: Weight>(
+    file: &[u8],
+    devices: usize,
+    points: usize,
+) -> Result<(), Fault>
+    requires { ⌜ devices ≡ devicesOf (now file) ⌝ ∗ ⌜ points ≡ pointsOf (now file) ⌝ ∗ ⌜ first (contentsTests (now file)) ≡ None ⌝ }
+    ensures cases { λ r. ⌜ BodiesChecked (W·Weight .meaning) (now (file .entry)) r ⌝ }
+{
+    let mut rest = &file[4..];
+    for _ in 0..devices {
+        let (start, count, after) = entry(rest);
+        check_body::<W>(file, points, start as usize, count as usize)?;
+        rest = after;
+    }
+    Ok(())
 }
