@@ -9,8 +9,16 @@ use Rattle.std.specs.Iters.{counting}
 use Rattle.std.specs.Joined.{joined}
 use Rattle.std.specs.declared.option.Option.{Option}
 use Rattle.std.specs.declared.option.Option.the-variants.{Some, None}
+use Rattle.std.specs.declared.result.Result.{Result}
+use Rattle.std.specs.declared.result.Result.the-variants.{Err}
+use Rattle.std.specs.Results.{ErrBy}
+use Rattle.std.proofs.shelf.Results.{err-from-errBy}
 use Rattle.grantfile.specs.declared.fault.Fault.{Fault}
 use Rattle.grantfile.specs.Tests.{Test, first}
+
+-- what a `?` hands on is the fault that it was given
+pub handed-on : {X : Type 0} (r : Result X Fault) (f : Fault) → ErrBy r (λ g. g ≡ f) → r ≡ Err f
+handed-on r f h = let p = err-from-errBy r h in p .1 ∙ ap Err (p .2)
 
 -- one test, and what the tests after it give
 past : (b : Bool) (f : Fault) (o p z : Option Fault) → (o ≡ None → p ≡ z) → cond b (Some f) o ≡ None → cond b (Some f) p ≡ z

@@ -6,11 +6,10 @@ use lib.ListN.{length}
 use Rattle.std.specs.Iters.{counting}
 use Rattle.std.specs.Joined.{joined}
 use Rattle.std.proofs.shelf.Lists.{take-rest}
-use Rattle.std.proofs.shelf.Results.{err-from-errBy}
 use Rattle.grantfile.specs.Format.{devicesOf}
 use Rattle.grantfile.specs.Tests.{first, bodyTests}
 use Rattle.grantfile.proofs.Checks.{passed-whole, passed-entry, passed-within, body-tests}
-use Rattle.grantfile.proofs.Firsts.{joined-step, joined-end, first-past, first-stop}
+use Rattle.grantfile.proofs.Firsts.{handed-on, joined-step, joined-end, first-past, first-stop}
 use Rattle.grantfile.proofs.bodies.check_bodies.Needs as need
 
 pub loop-holds : need.loop-holds
@@ -56,10 +55,9 @@ returns-in-Break-check-body g c =
     let h : d < devicesOf file = omega (arith, c .pre .0) in
     let t = passed-entry file (c .loop .rest .now) (c .entry-start .result .2 .now) d (c .entry-start .result .0) (c .entry-start .result .1) (c .pre .1 .1) h (c .loop .inv .0) (c .entry-start .ensures .whole) in
     let b = body-tests (g .W·Weight .meaning) file d (c .entry-start .result .0) (c .entry-start .result .1) (t .0) (t .1) in
-    let p = err-from-errBy (c .from-residual .result) (c .from-residual .ensures .1) in
     record {
       cases =
-          rw (p .1, p .2)
+          rw (handed-on (c .from-residual .result) _ (c .from-residual .ensures .1))
           (c .loop .inv .1
           ∙ joined-step tests d (c .args .devices) (c .loop-test .taken)
           ∙ first-stop (tests d) (joined tests (counting (d + 1) (c .args .devices - (d + 1)))) _ (b ∙ c .in-Break-check-body .ensures tt .cases));

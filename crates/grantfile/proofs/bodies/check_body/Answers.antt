@@ -4,9 +4,8 @@ use Prim.Native.Nat.{_+_, _-_, _<_}
 use native.Mathlib.Omega.{arith}
 use Rattle.std.specs.Iters.{counting}
 use Rattle.std.specs.Joined.{joined}
-use Rattle.std.proofs.shelf.Results.{err-from-errBy}
 use Rattle.grantfile.specs.Tests.{grantTests}
-use Rattle.grantfile.proofs.Firsts.{joined-step, first-past, first-stop}
+use Rattle.grantfile.proofs.Firsts.{handed-on, joined-step, first-past, first-stop}
 use Rattle.grantfile.proofs.bodies.check_body.Needs as need
 
 pub loop-j-again : need.loop-j-again
@@ -21,10 +20,9 @@ pub returns-in-Break-grant : need.returns-in-Break-grant
 returns-in-Break-grant g c =
     let tests = grantTests (g .W·Weight .meaning) (c .args .file .now) (c .args .start) in
     let j = c .loop-j .j in
-    let p = err-from-errBy (c .from-residual .result) (c .from-residual .ensures .1) in
     record {
       cases =
-          rw (p .1, p .2)
+          rw (handed-on (c .from-residual .result) _ (c .from-residual .ensures .1))
           (c .loop-j .inv
           ∙ joined-step tests j (c .args .count) (c .loop-j-test .taken)
           ∙ first-stop (tests j) (joined tests (counting (j + 1) (c .args .count - (j + 1)))) _ (c .in-Break-grant .ensures tt .cases));

@@ -4,16 +4,15 @@ use Prim.Native.Nat.{_≤_}
 use native.Mathlib.Omega.{arith}
 use lib.ListN.{length}
 use Rattle.std.specs.declared.option.Option.the-variants.{Some}
-use Rattle.std.proofs.shelf.Results.{err-from-errBy}
 use Rattle.std.proofs.shelf.Tests.{eq-eqb, ne-eqb, not-from-true, not-from-false, cond-true, cond-false}
 use Rattle.grantfile.specs.Format.{bodyAt, devicesOf, entryAt}
+use Rattle.grantfile.proofs.Firsts.{handed-on}
 use Rattle.grantfile.proofs.Checks.{entries-stop, entries-past}
 use Rattle.grantfile.proofs.entries.check_contents.Needs as need
 
 pub returns-in-Break-end : need.returns-in-Break-end
 returns-in-Break-end c =
-    let p = err-from-errBy (c .from-residual .result) (c .from-residual .ensures .1) in
-    record { cases = rw (p .1, p .2) (entries-stop (c .args .file .now) _ (omega arith) (c .in-Break-end .ensures tt .cases)) }
+    record { cases = rw (handed-on (c .from-residual .result) _ (c .from-residual .ensures .1)) (entries-stop (c .args .file .now) _ (omega arith) (c .in-Break-end .ensures tt .cases)) }
 
 pub returns-then-file-end : need.returns-then-file-end
 returns-then-file-end c =
