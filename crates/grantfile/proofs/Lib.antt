@@ -1,3 +1,4 @@
 mod Firsts
 mod Places
 mod Checks
+mod Written

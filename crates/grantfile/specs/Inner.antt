@@ -6,13 +6,15 @@
 --     GrantRead k file s j r   the grant j of the body from s on is checked
 --     BodyChecked k file s n r    n grants of the body from s on are checked
 --     BodiesChecked k file r      all bodies are checked
+--     Cleared k rows           every row is empty
+--     BodyFilled k file s n rows  n grants of the body from s on stand in their rows, and every other row of the device is empty
 use mathlib.Core.Path.{_≡_}
 use mathlib.Core.List.{List}
 use Prim.Native.Nat.{ℕ, _+_, _*_, _<_}
 use Rattle.std.specs.Iters.{counting}
 use Rattle.std.specs.Joined.{joined}
 use denote.Ref.{RefT, now}
-use lib.ListN.{length, take, drop}
+use lib.ListN.{length, getD, take, drop}
 use Rattle.std.specs.declared.option.Option.{Option}
 use Rattle.std.specs.declared.option.Option.the-variants.{Some, None}
 use Rattle.std.specs.declared.result.Result.{Result}
@@ -21,9 +23,9 @@ use Rattle.mesh.specs.declared.right.Right.{Right}
 use Rattle.mesh.specs.declared.row.Row.{Row}
 use Rattle.mesh.specs.Kind.{Kind}
 use Rattle.mesh.specs.Rights.{rightOf}
-use Rattle.mesh.specs.Rows.{grantRow}
+use Rattle.mesh.specs.Rows.{emptyRow, grantRow}
 use Rattle.grantfile.specs.declared.fault.Fault.{Fault}
-use Rattle.grantfile.specs.Format.{devicesOf, bodyAt, letterAt, amountAt}
+use Rattle.grantfile.specs.Format.{devicesOf, bodyAt, pointAt, letterAt, amountAt}
 use Rattle.grantfile.specs.Tests.{first, entriesTests, contentsTests, grantTests, bodiesTests}
 
 abbrev pub EntriesChecked : List ℕ → Result ℕ Fault → Type 0
@@ -52,3 +54,10 @@ BodyChecked k file start n (Err f) = first (joined (grantTests k file start) (co
 abbrev pub BodiesChecked : {W : Type 0} → Kind W → List ℕ → Result (Unit {0}) Fault → Type 0
 BodiesChecked k file (Ok u) = first (bodiesTests k file) ≡ None
 BodiesChecked k file (Err f) = first (bodiesTests k file) ≡ Some f
+
+abbrev pub Cleared : {W : Type 0} → Kind W → List (Row W) → Type 0
+Cleared {W} k rows = (i : ℕ) (x : Row W) → i < length rows → getD rows i x ≡ emptyRow k
+
+pub record BodyFilled {W : Type 0} (k : Kind W) (file : List ℕ) (start n : ℕ) (rows : List (Row W)) : Type 0 where
+  pub named : (j : ℕ) (x : Row W) → j < n → GrantRow k file (start + 6 * j) (getD rows (pointAt file (start + 6 * j)) x)
+  pub others : (p : ℕ) (x : Row W) → p < length rows → ((j : ℕ) → j < n → pointAt file (start + 6 * j) ≡ p → ⊥) → getD rows p x ≡ emptyRow k

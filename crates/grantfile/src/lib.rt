@@ -3,4 +3,5 @@ mod bodies;
 pub mod entries;
 pub mod fault;
 pub mod file;
+mod filling;
 pub mod heading;
