@@ -2,3 +2,4 @@ mod Firsts
 mod Places
 mod Checks
 mod Written
+mod Devices

@@ -8,6 +8,7 @@
 --     BodiesChecked k file r      all bodies are checked
 --     Cleared k rows           every row is empty
 --     BodyFilled k file s n rows  n grants of the body from s on stand in their rows, and every other row of the device is empty
+--     FilledTo k n file rows      each grant of the first n devices stands in its row, and every other row of theirs is empty
 use mathlib.Core.Path.{_≡_}
 use mathlib.Core.List.{List}
 use Prim.Native.Nat.{ℕ, _+_, _*_, _<_}
@@ -25,7 +26,7 @@ use Rattle.mesh.specs.Kind.{Kind}
 use Rattle.mesh.specs.Rights.{rightOf}
 use Rattle.mesh.specs.Rows.{emptyRow, grantRow}
 use Rattle.grantfile.specs.declared.fault.Fault.{Fault}
-use Rattle.grantfile.specs.Format.{devicesOf, bodyAt, pointAt, letterAt, amountAt}
+use Rattle.grantfile.specs.Format.{devicesOf, pointsOf, countOf, bodyAt, grantAt, pointAt, letterAt, amountAt}
 use Rattle.grantfile.specs.Tests.{first, entriesTests, contentsTests, grantTests, bodiesTests}
 
 abbrev pub EntriesChecked : List ℕ → Result ℕ Fault → Type 0
@@ -61,3 +62,9 @@ Cleared {W} k rows = (i : ℕ) (x : Row W) → i < length rows → getD rows i x
 pub record BodyFilled {W : Type 0} (k : Kind W) (file : List ℕ) (start n : ℕ) (rows : List (Row W)) : Type 0 where
   pub named : (j : ℕ) (x : Row W) → j < n → GrantRow k file (start + 6 * j) (getD rows (pointAt file (start + 6 * j)) x)
   pub others : (p : ℕ) (x : Row W) → p < length rows → ((j : ℕ) → j < n → pointAt file (start + 6 * j) ≡ p → ⊥) → getD rows p x ≡ emptyRow k
+
+pub record FilledTo {W : Type 0} (k : Kind W) (n : ℕ) (file : List ℕ) (rows : List (Row W)) : Type 0 where
+  pub named : (d j : ℕ) (x : Row W) → d < n → j < countOf file d
+      → GrantRow k file (grantAt file d j) (getD rows (d * pointsOf file + pointAt file (grantAt file d j)) x)
+  pub others : (d p : ℕ) (x : Row W) → d < n → p < pointsOf file → ((j : ℕ) → j < countOf file d → pointAt file (grantAt file d j) ≡ p → ⊥)
+      → getD rows (d * pointsOf file + p) x ≡ emptyRow k
