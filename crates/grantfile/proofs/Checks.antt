@@ -1,5 +1,5 @@
 -- What the tests of a file come to, list by list in their order.
-use mathlib.Core.Path.{_≡_, refl, sym, _∙_, ap}
+use mathlib.Core.Path.{_≡_, sym, _∙_, ap, subst}
 use mathlib.Core.List.{List, [], _∷_, _++_}
 use Prim.Native.Nat.{ℕ, _+_, _*_, _<_, _≤_}
 use native.Mathlib.Omega.{arith}
@@ -8,11 +8,13 @@ use Rattle.std.specs.Iters.{counting}
 use Rattle.std.specs.Joined.{joined}
 use Rattle.std.specs.declared.option.Option.the-variants.{Some, None}
 use Rattle.std.proofs.shelf.Tests.{le-ltb, ltb-false, eqb-true, not-false, cond-false}
+use Rattle.mesh.specs.declared.shape.Shape.{Shape}
 use Rattle.mesh.specs.Kind.{Kind}
+use Rattle.mesh.specs.Table.{rowsOf}
 use Rattle.grantfile.specs.declared.fault.Fault.{Fault}
-use Rattle.grantfile.specs.Format.{devicesOf, entryAt, startOf, countOf, bodyAt}
+use Rattle.grantfile.specs.Format.{ShapeOf, devicesOf, pointsOf, entryAt, startOf, countOf, bodyAt}
 use Rattle.grantfile.specs.Reading.{EntryRead}
-use Rattle.grantfile.specs.Tests.{first, entryTest, entriesTests, endTest, contentsTests, grantTests, bodyTests}
+use Rattle.grantfile.specs.Tests.{first, entryTest, entriesTests, endTest, contentsTests, headTests, rowsTest, grantTests, bodyTests, bodiesTests, allTests}
 use Rattle.grantfile.proofs.Firsts.{under, first-past, first-stop, first-front, first-back, each-passed}
 use Rattle.grantfile.proofs.Places.{body-next, body-rises, entry-there}
 
@@ -62,3 +64,16 @@ pub body-tests : {W : Type 0} (k : Kind W) (file : List ℕ) (d start count : �
 body-tests k file d start count s n =
     ap (λ m. first (joined (grantTests k file m) (counting 0 (countOf file d)))) (sym s)
     ∙ ap (λ m. first (joined (grantTests k file start) (counting 0 m))) (sym n)
+
+-- what is left to test once the head passes and there are rows enough, and once the contents pass too
+pub past-rows : {W : Type 0} (k : Kind W) (lent kind : ℕ) (file : List ℕ) (s : Shape) → kind ≡ k .number → (first (headTests kind file) ≡ None) × ShapeOf file s
+    → rowsOf s ≤ lent → first (allTests k lent file) ≡ first (contentsTests file ++ bodiesTests k file)
+past-rows k lent kind file s q h w =
+    let n : devicesOf file * pointsOf file ≡ rowsOf s = ap (λ d. d * pointsOf file) (sym (h .1 .0)) ∙ ap (λ p. s .devices * p) (sym (h .1 .1)) in
+    let enough : devicesOf file * pointsOf file ≤ lent = omega arith in
+    first-past (headTests (k .number) file) (rowsTest lent file ∷ (contentsTests file ++ bodiesTests k file)) (subst (λ m. first (headTests m file) ≡ None) q (h .0))
+    ∙ cond-false _ _ _ (le-ltb _ _ enough)
+
+pub past-contents : {W : Type 0} (k : Kind W) (lent kind : ℕ) (file : List ℕ) (s : Shape) → kind ≡ k .number → (first (headTests kind file) ≡ None) × ShapeOf file s
+    → rowsOf s ≤ lent → first (contentsTests file) ≡ None → first (allTests k lent file) ≡ first (bodiesTests k file)
+past-contents k lent kind file s q h w e = past-rows k lent kind file s q h w ∙ first-past (contentsTests file) (bodiesTests k file) e

@@ -5,3 +5,4 @@ pub mod fault;
 pub mod file;
 mod filling;
 pub mod heading;
+pub mod reading;
