@@ -1,0 +1,5 @@
+mod Firsts
+mod Places
+mod Checks
+mod Written
+mod Devices

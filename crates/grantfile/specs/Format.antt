@@ -2,14 +2,17 @@
 --     byteAt file i          the byte at the place i
 --     wordAt, longAt         the number in the two, in the four bytes from there, high byte first
 --     devicesOf, pointsOf    the size of the table
+--     ShapeOf file s         the shape s is the one that the file names
 --     entryAt d              where the contents entry of device d is
 --     startOf, countOf       what the entry of a device says: where its body starts, and how many grants it has
 --     bodyAt file d          where the body of device d has to start: the first where the contents end, any other where the one before it ends
 --     grantAt file d j       where the grant j of device d stands
 --     pointAt, letterAt, amountAt    what a grant says
+use mathlib.Core.Path.{_≡_}
 use mathlib.Core.List.{List}
 use Prim.Native.Nat.{ℕ, zero, suc, _+_, _*_}
 use lib.ListN.{getD}
+use Rattle.mesh.specs.declared.shape.Shape.{Shape}
 
 abbrev pub byteAt : List ℕ → ℕ → ℕ
 byteAt file i = getD file i 0
@@ -25,6 +28,9 @@ devicesOf file = byteAt file 2
 
 abbrev pub pointsOf : List ℕ → ℕ
 pointsOf file = byteAt file 3
+
+abbrev pub ShapeOf : List ℕ → Shape → Type 0
+ShapeOf file s = (s .devices ≡ devicesOf file) × (s .points ≡ pointsOf file)
 
 abbrev pub entryAt : ℕ → ℕ
 entryAt d = 4 + 3 * d

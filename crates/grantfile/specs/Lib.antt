@@ -1,3 +1,4 @@
 pub mod Format
 pub mod Tests
 pub mod Reading
+pub mod Inner

@@ -23,7 +23,7 @@ use Rattle.mesh.specs.Kind.{Kind}
 use Rattle.grantfile.specs.declared.fault.Fault.{Fault}
 use Rattle.grantfile.specs.declared.fault.Layer.{Layer}
 use Rattle.grantfile.specs.declared.fault.Layer.the-variants as layer
-use Rattle.grantfile.specs.Format.{byteAt, devicesOf, pointsOf, entryAt, startOf, countOf, bodyAt, grantAt, pointAt, letterAt, amountAt}
+use Rattle.grantfile.specs.Format.{byteAt, devicesOf, pointsOf, entryAt, startOf, countOf, bodyAt, pointAt, letterAt, amountAt}
 
 pub record Test : Type 0 where
   pub fails : Bool
@@ -55,27 +55,36 @@ rowsTest lent file = test (ltb lent (devicesOf file * pointsOf file)) ShortMemor
 abbrev pub entryTest : List ℕ → ℕ → Test
 entryTest file d = test (not (eqb (startOf file d) (bodyAt file d))) WrongStart (entryAt d) layer.Contents
 
+abbrev pub entriesTests : List ℕ → List Test
+entriesTests file = map (entryTest file) (counting 0 (devicesOf file))
+
+abbrev pub endTest : List ℕ → Test
+endTest file =
+    let end = bodyAt file (devicesOf file) in
+    test (not (eqb (length file) end)) WrongEnd (min (length file) end) layer.Contents
+
 abbrev pub contentsTests : List ℕ → List Test
 contentsTests file =
     test (ltb (length file) (entryAt (devicesOf file))) ShortContents (length file) layer.Contents
-    ∷ (map (entryTest file) (counting 0 (devicesOf file))
-    ++ test (not (eqb (length file) (bodyAt file (devicesOf file)))) WrongEnd (min (length file) (bodyAt file (devicesOf file))) layer.Contents
-    ∷ [])
+    ∷ (entriesTests file ++ endTest file ∷ [])
 
--- the point of grant j is not above that of the grant before it in the same body
-abbrev pub notRising : List ℕ → ℕ → ℕ → Bool
-notRising file d j = ltb 0 j && leb (pointAt file (grantAt file d j)) (pointAt file (grantAt file d (j - 1)))
+-- the point of the grant j of the body from `start` on is not in the table, or not above that of the grant before it
+abbrev pub outOfOrder : List ℕ → ℕ → ℕ → Bool
+outOfOrder file start j =
+    let point = pointAt file (start + 6 * j) in
+    leb (pointsOf file) point || (ltb 0 j && leb point (pointAt file (start + 6 * (j - 1))))
 
+-- the tests of the grant j of the body from `start` on
 abbrev pub grantTests : {W : Type 0} → Kind W → List ℕ → ℕ → ℕ → List Test
-grantTests k file d j =
-    let place = grantAt file d j in
-    test (leb (pointsOf file) (pointAt file place) || notRising file d j) OutsideTable place layer.Body
+grantTests k file start j =
+    let place = start + 6 * j in
+    test (outOfOrder file start j) OutsideTable place layer.Body
     ∷ test (not (isSome (rightOf (letterAt file place)))) WrongRight (place + 1) layer.Body
     ∷ test (not (k .admits (amountAt file place))) WrongAmount (place + 2) layer.Weight
     ∷ []
 
 abbrev pub bodyTests : {W : Type 0} → Kind W → List ℕ → ℕ → List Test
-bodyTests k file d = joined (grantTests k file d) (counting 0 (countOf file d))
+bodyTests k file d = joined (grantTests k file (bodyAt file d)) (counting 0 (countOf file d))
 
 abbrev pub bodiesTests : {W : Type 0} → Kind W → List ℕ → List Test
 bodiesTests k file = joined (bodyTests k file) (counting 0 (devicesOf file))

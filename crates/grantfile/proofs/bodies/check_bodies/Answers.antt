@@ -1,0 +1,64 @@
+-- One body: its entry is read in its place, and its grants pass, or hold the first that does not.
+use mathlib.Core.Path.{_≡_, _∙_, ap}
+use Prim.Native.Nat.{_+_, _-_, _*_, _<_, _≤_}
+use native.Mathlib.Omega.{arith}
+use lib.ListN.{length}
+use Rattle.std.specs.Iters.{counting}
+use Rattle.std.specs.Joined.{joined}
+use Rattle.std.proofs.shelf.Lists.{take-rest}
+use Rattle.grantfile.specs.Format.{devicesOf}
+use Rattle.grantfile.specs.Tests.{first, bodyTests}
+use Rattle.grantfile.proofs.Checks.{passed-whole, passed-entry, passed-within, body-tests}
+use Rattle.grantfile.proofs.Firsts.{handed-on, joined-step, joined-end, first-past, first-stop}
+use Rattle.grantfile.proofs.bodies.check_bodies.Needs as need
+
+pub loop-holds : need.loop-holds
+loop-holds g c =
+    let file = c .args .file .now in
+    let n : devicesOf file ≡ c .args .devices - 0 = omega (arith, c .pre .0) in
+    (take-rest file 4, ap (λ m. first (joined (bodyTests (g .W·Weight .meaning) file) (counting 0 m))) n)
+
+pub loop-again : need.loop-again
+loop-again g c =
+    let file = c .args .file .now in
+    let tests = bodyTests (g .W·Weight .meaning) file in
+    let d = c .loop .counter in
+    let h : d < devicesOf file = omega (arith, c .pre .0) in
+    let t = passed-entry file (c .loop .rest .now) (c .entry-start .result .2 .now) d (c .entry-start .result .0) (c .entry-start .result .1) (c .pre .1 .1) h (c .loop .inv .0) (c .entry-start .ensures .whole) in
+    let b = body-tests (g .W·Weight .meaning) file d (c .entry-start .result .0) (c .entry-start .result .1) (t .0) (t .1) in (
+      t .2,
+      c .loop .inv .1
+          ∙ joined-step tests d (c .args .devices) (c .loop-test .taken)
+          ∙ first-past (tests d) (joined tests (counting (d + 1) (c .args .devices - (d + 1)))) (b ∙ c .in-Continue-check-body .ensures tt .cases),
+    )
+
+pub check-body-requires : need.check-body-requires
+check-body-requires g c κs =
+    let file = c .args .file .now in
+    let d = c .loop .counter in
+    let h : d < devicesOf file = omega (arith, c .pre .0) in
+    let t = passed-entry file (c .loop .rest .now) (c .entry-start .result .2 .now) d (c .entry-start .result .0) (c .entry-start .result .1) (c .pre .1 .1) h (c .loop .inv .0) (c .entry-start .ensures .whole) in
+    let w = passed-within file d (c .pre .1 .1) h in
+    (c .pre .1 .0, omega arith)
+
+pub returns : need.returns
+returns g c =
+    record {
+      cases = c .loop .inv .1 ∙ joined-end (bodyTests (g .W·Weight .meaning) (c .args .file .now)) (c .loop .counter) (c .args .devices) (c .loop-test .left);
+    }
+
+pub returns-in-Break-check-body : need.returns-in-Break-check-body
+returns-in-Break-check-body g c =
+    let file = c .args .file .now in
+    let tests = bodyTests (g .W·Weight .meaning) file in
+    let d = c .loop .counter in
+    let h : d < devicesOf file = omega (arith, c .pre .0) in
+    let t = passed-entry file (c .loop .rest .now) (c .entry-start .result .2 .now) d (c .entry-start .result .0) (c .entry-start .result .1) (c .pre .1 .1) h (c .loop .inv .0) (c .entry-start .ensures .whole) in
+    let b = body-tests (g .W·Weight .meaning) file d (c .entry-start .result .0) (c .entry-start .result .1) (t .0) (t .1) in
+    record {
+      cases =
+          rw (handed-on (c .from-residual .result) _ (c .from-residual .ensures .1))
+          (c .loop .inv .1
+          ∙ joined-step tests d (c .args .devices) (c .loop-test .taken)
+          ∙ first-stop (tests d) (joined tests (counting (d + 1) (c .args .devices - (d + 1)))) _ (b ∙ c .in-Break-check-body .ensures tt .cases));
+    }
