@@ -20,8 +20,8 @@ use Rattle.mesh.specs.Kind.{Kind}
 use Rattle.mesh.specs.Kinds.{sumKind, peakKind}
 use Rattle.mesh.specs.Order.{FlowOrder}
 use Rattle.grantfile.specs.declared.fault.Fault.{Fault}
-use Rattle.grantfile.specs.Format.{byteAt}
-use Rattle.grantfile.specs.Reading.{ShapeOf, Filled}
+use Rattle.grantfile.specs.Format.{byteAt, ShapeOf}
+use Rattle.grantfile.specs.Reading.{Filled}
 use Rattle.grantfile.specs.Tests.{first, allTests}
 use Rattle.report.specs.Lines.{refusedLine, orderLine}
 
@@ -42,7 +42,7 @@ pub data Ordered (g : Rights) (n : ℕ) (out : List ℕ) : Type 0 where
 pub data Answered {W : Type 0} (k : Kind W) (file out : List ℕ) : Type 0 where
   refused : (f : Fault) → first (allTests k lentRows file) ≡ Some f → out ≡ refusedLine (f .why) (f .place) → Answered k file out
   accepted : (s : Shape) (rows : List (Row W)) → first (allTests k lentRows file) ≡ None → ShapeOf file s → Filled k s file rows
-    → Ordered (rights s rows) (s .devices) out → Answered k file out
+      → Ordered (rights s rows) (s .devices) out → Answered k file out
 
 abbrev pub Printed : List ℕ → List ℕ → Type 0
 Printed input out = When (namesPeak (fileOf input)) (Answered peakKind (fileOf input) out) (Answered sumKind (fileOf input) out)

@@ -6,12 +6,18 @@ ghost use Rattle.std.specs.Of.String.{string-bytes};
 ghost use Rattle.std.specs.Vec.{made};
 ghost use Rattle.mesh.specs.Flow.{rights};
 ghost use Rattle.mesh.specs.Table.{rowsOf};
-ghost use Rattle.report.specs.Answers.{Ordered};
+ghost use Rattle.report.specs.Answers.{Answered, Ordered, Printed, fileOf, namesPeak};
 use super::lines::order_line;
 use super::lines::refused_line;
+use grantfile::reading::read;
 use mesh::order::order;
+use mesh::peak::Peak;
+use mesh::peak::PeakWeight;
 use mesh::row::Row;
+use mesh::row::RowClone;
 use mesh::shape::Shape;
+use mesh::sum::Sum;
+use mesh::sum::SumWeight;
 use mesh::weight::Weight;
 use std::alloc::AllocError;
 use std::alloc::Global;
@@ -25,5 +31,49 @@ fn ordered<W: Weight>(heap: Global, shape: Shape, rows: &[Row<W>]) -> Result<Str
     match order(shape, rows, &mut memory) {
         Ok(devices) => order_line(heap, &memory[0..devices]),
         Err(why) => refused_line(heap, why, 0),
+    }
+}
+
+// The answer for a file of the kind `W`.
+fn answer<W: Weight + Clone>(heap: Global, file: &[u8]) -> Result<String, AllocError>
+    ensures made { λ r. ⌜ made r (λ t. Answered (W·Weight .meaning) (now (file .entry)) (string-bytes t)) ⌝ }
+{
+    let mut rows = vec![in heap; Row::<W>::empty(); 4096]?;
+    match read(file, rows.as_mut_slice()) {
+        Ok(shape) => ordered(heap, shape, rows.as_slice()),
+        Err(fault) => refused_line(heap, fault.why, fault.place),
+    }
+}
+
+// The part of the input that counts as the file.
+fn file_part(input: &[u8]) -> &[u8]
+    ensures value { λ r. ⌜ now r ≡ fileOf (now (input .entry)) ⌝ }
+{
+    if input.len() < 65536 {
+        input
+    } else {
+        &input[0..65536]
+    }
+}
+
+// Whether the file's second byte is the number of peak.
+fn names_peak(file: &[u8]) -> bool
+    ensures value { λ r. ⌜ r ≡ namesPeak (now (file .entry)) ⌝ }
+{
+    file.len() >= 2 && file[1] == 2
+}
+
+// All the bytes that `floworder` prints for its input: `order` and the devices in flow order, or `refused`, the
+// refusal's number and the byte place. The first 65,536 bytes count as the file, and its second byte names the kind:
+// 2 is peak, and anything else is read as sum. Fails only for want of memory. Costs one pass over the file and
+// the rows of the largest table, and as much as an order.
+pub fn flow_order(heap: Global, input: &[u8]) -> Result<String, AllocError>
+    ensures made { λ r. ⌜ made r (λ t. Printed (now (input .entry)) (string-bytes t)) ⌝ }
+{
+    let file = file_part(input);
+    if names_peak(file) {
+        answer::<Peak>(heap, file)
+    } else {
+        answer::<Sum>(heap, file)
     }
 }

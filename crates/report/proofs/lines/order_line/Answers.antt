@@ -34,7 +34,7 @@ returns c =
     let e = c .push .ensures .ascii (omega arith) in
     record {
       made =
-        p ∙ ap (λ t. (codes "order" ++ joined field (take i devices)) ++ t) e
-        ∙ append-assoc (codes "order") (joined field (take i devices)) (lineFeed ∷ [])
-        ∙ ap (λ xs. codes "order" ++ (joined field xs ++ (lineFeed ∷ []))) (take-all i devices (omega arith));
+          p ∙ ap (λ t. (codes "order" ++ joined field (take i devices)) ++ t) e
+          ∙ append-assoc (codes "order") (joined field (take i devices)) (lineFeed ∷ [])
+          ∙ ap (λ xs. codes "order" ++ (joined field xs ++ (lineFeed ∷ []))) (take-all i devices (omega arith));
     }

@@ -15,6 +15,6 @@ pub returns : need.returns
 unfolding line
 returns c = record {
   made =
-    made-weaker (c .format .result) (λ t. string-bytes t ≡ line (c .number-number .result) (c .args .place)) (λ t. string-bytes t ≡ refusedLine (c .args .why) (c .args .place))
-    (λ t e. e ∙ ap (λ n. line n (c .args .place)) (c .number-number .ensures .value)) (c .format .ensures .made);
+      made-weaker (c .format .result) (λ t. string-bytes t ≡ line (c .number-number .result) (c .args .place)) (λ t. string-bytes t ≡ refusedLine (c .args .why) (c .args .place))
+      (λ t e. e ∙ ap (λ n. line n (c .args .place)) (c .number-number .ensures .value)) (c .format .ensures .made);
 }
