@@ -27,12 +27,7 @@ impl<W: Weight> Row<W> {
     pub fn empty() -> Row<W>
         ensures value { λ r. ⌜ r ≡ emptyRow (W·Weight .meaning) ⌝ }
     {
-        Row {
-            right: Right::Empty,
-            weight: W::zero(),
-            choice: Choice::Blank,
-            held: false,
-        }
+        Row::grant(Right::Empty, W::zero())
     }
 }
 

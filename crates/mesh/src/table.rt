@@ -1,7 +1,6 @@
 // Making a shape, and where the row of a device and a point lies.
 ghost use mathlib.Core.Path.{_≡_};
-ghost use Prim.Native.Nat.{_*_};
-ghost use Rattle.mesh.specs.Table.{Shaped, PlacedRow};
+ghost use Rattle.mesh.specs.Table.{PlacedRow, Shaped, rowsOf};
 use super::refusal::Refusal;
 use super::shape::Shape;
 
@@ -32,9 +31,9 @@ impl Shape {
 
     // How many rows the table needs. Constant time.
     pub fn rows(self) -> usize
-        ensures value { λ r. ⌜ r ≡ self .devices * self .points ⌝ }
+        ensures value { λ r. ⌜ r ≡ rowsOf self ⌝ }
     {
-        self.devices as usize * self.points as usize
+        self.devices() * self.points()
     }
 
     // The number of the row of a device and a point; refused 8 outside the table. Constant time.
@@ -44,6 +43,6 @@ impl Shape {
         if device >= self.devices || point >= self.points {
             return Err(Refusal::OutsideTable);
         }
-        Ok(device as usize * self.points as usize + point as usize)
+        Ok(device as usize * self.points() + point as usize)
     }
 }
