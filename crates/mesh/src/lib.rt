@@ -1,15 +1,10 @@
-// The words of the subject: refusals, rights, rows, weights, and the flow between devices.
+// The words of the subject: refusals, rights, rows, shapes and weights.
 mod amounts;
 mod decimal;
-mod flow;
-pub mod followers;
-pub mod order;
 pub mod peak;
-pub mod reach;
 pub mod refusal;
 pub mod right;
 pub mod row;
-mod sets;
 pub mod shape;
 pub mod sum;
 mod table;

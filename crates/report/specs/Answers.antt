@@ -15,10 +15,10 @@ use Rattle.std.specs.declared.option.Option.the-variants.{Some, None}
 use Rattle.mesh.specs.declared.refusal.Refusal.the-variants.{RingStands}
 use Rattle.mesh.specs.declared.row.Row.{Row}
 use Rattle.mesh.specs.declared.shape.Shape.{Shape}
-use Rattle.mesh.specs.Flow.{Rights, rights, Ring}
+use Rattle.flow.specs.Flow.{Rights, rights, Ring}
 use Rattle.mesh.specs.Kind.{Kind}
 use Rattle.mesh.specs.Kinds.{sumKind, peakKind}
-use Rattle.mesh.specs.Order.{FlowOrder}
+use Rattle.flow.specs.Order.{FlowOrder}
 use Rattle.grantfile.specs.declared.fault.Fault.{Fault}
 use Rattle.grantfile.specs.Format.{byteAt, ShapeOf}
 use Rattle.grantfile.specs.Reading.{Filled}

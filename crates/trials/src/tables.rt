@@ -1,11 +1,11 @@
 // Tables of rows: followers, reach, rings and orders, up to 64 devices.
-use mesh::followers::followers;
-use mesh::order::order;
-use mesh::order::ring_stands;
-use mesh::reach::Reached;
-use mesh::reach::ReachedDebug;
-use mesh::reach::ReachedPartialEq;
-use mesh::reach::reach;
+use flow::followers::followers;
+use flow::order::order;
+use flow::order::ring_stands;
+use flow::reach::Reached;
+use flow::reach::ReachedDebug;
+use flow::reach::ReachedPartialEq;
+use flow::reach::reach;
 use mesh::refusal::Refusal;
 use mesh::refusal::RefusalDebug;
 use mesh::refusal::RefusalPartialEq;

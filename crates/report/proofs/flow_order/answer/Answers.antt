@@ -4,7 +4,7 @@ use Rattle.std.specs.Of.String.{string-bytes}
 use Rattle.std.specs.declared.option.Option.the-variants.{Some, None}
 use Rattle.std.proofs.shelf.Lists.{refilled-is}
 use Rattle.std.proofs.shelf.Results.{made-weaker}
-use Rattle.mesh.specs.Flow.{rights}
+use Rattle.flow.specs.Flow.{rights}
 use Rattle.grantfile.specs.Reading.{Filled}
 use Rattle.grantfile.specs.Tests.{first, allTests}
 use Rattle.report.specs.Answers.{Answered, Ordered, accepted, refused}

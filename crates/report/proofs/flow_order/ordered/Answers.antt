@@ -4,8 +4,8 @@ use native.Mathlib.Omega.{arith}
 use lib.ListN.{take}
 use Rattle.std.specs.Of.String.{string-bytes}
 use Rattle.std.proofs.shelf.Results.{made-weaker}
-use Rattle.mesh.specs.Flow.{rights}
-use Rattle.mesh.specs.Order.{FlowOrder}
+use Rattle.flow.specs.Flow.{rights}
+use Rattle.flow.specs.Order.{FlowOrder}
 use Rattle.report.specs.Answers.{Ordered, listed}
 use Rattle.report.specs.Lines.{orderLine}
 use Rattle.report.proofs.flow_order.ordered.Needs as need
