@@ -1,5 +1,5 @@
 -- One more device has its rows.
-use mathlib.Core.Path.{_≡_, refl, sym, _∙_, ap}
+use mathlib.Core.Path.{_≡_, refl, sym, _∙_, ap, subst}
 use Prim.Native.Nat.{ℕ, _+_, _-_, _*_, _<_, _≤_}
 use native.Mathlib.Omega.{arith}
 use borrow.Author.Needs.{needs, scaled-fits≤}
@@ -48,7 +48,7 @@ returns g c =
     in
     record {
       table = all-filled (g .W·Weight .meaning) (c .args .file .now) (c .args .shape) (c .loop-d .d) (c .loop-d .rows) (c .pre .0) n (c .loop-d .inv .2);
-      beyond = ap (λ m. drop m (c .loop-d .rows)) (sym e) ∙ c .loop-d .inv .1 ∙ ap (λ m. drop m (c .args .rows .now)) e;
+      beyond = let P : ℕ → Type 0 = λ m. drop m (c .loop-d .rows) ≡ drop m (c .args .rows .now) in subst P e (c .loop-d .inv .1);
     }
 
 pub fill-device-requires : need.fill-device-requires
