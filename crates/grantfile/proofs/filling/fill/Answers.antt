@@ -12,7 +12,7 @@ use Rattle.grantfile.specs.Tests.{bodyTests}
 use Rattle.grantfile.proofs.Checks.{passed-entry, passed-within, body-tests}
 use Rattle.grantfile.proofs.Devices.{rows-within, none-to, more-to, more-beyond, all-filled}
 use Rattle.grantfile.proofs.Firsts.{joined-passed}
-use Rattle.grantfile.proofs.Written.{body-points}
+use Rattle.grantfile.proofs.Written.{points-inside}
 use Rattle.grantfile.proofs.filling.fill.Given as given
 use Rattle.grantfile.proofs.filling.fill.Needs as need
 use Rattle.grantfile.proofs.filling.fill.Needs.{After-entry-start}
@@ -49,7 +49,7 @@ loop-d-again g c =
       more-beyond d points (d * points + points - d * points) (c .loop-d .rows) (c .fill-device .last .rows) (c .args .rows .now) (c .loop-d .inv .1) n l (omega arith),
       more-to k file d (c .entry-start .result .0) (c .entry-start .result .1) (d * points) (d * points + points - d * points) (c .loop-d .rows) (c .fill-device .last .rows)
           (c .loop-d .inv .2) (c .fill-device .ensures .after) (t .1) (t .2) (ap (λ q. d * q) p) (l ∙ p) (omega arith)
-          (λ e j a b. body-points k file (bodyAt file e) (countOf file e) j (joined-passed (bodyTests k file) (devicesOf file) e (omega arith) (c .pre .3)) b),
+          (λ e j a b. points-inside k file (bodyAt file e) (countOf file e) j (joined-passed (bodyTests k file) (devicesOf file) e (omega arith) (c .pre .3)) b),
     )
 
 pub returns : need.returns

@@ -1,12 +1,13 @@
 -- In a sound file a body starts where its entry says, and lies within the file.
-use mathlib.Core.Path.{_≡_, _∙_, ap}
+use mathlib.Core.Path.{_≡_}
 use Prim.Native.Nat.{_+_, _*_, _<_, _≤_}
 use native.Mathlib.Omega.{arith}
-use lib.ListN.{length, take, drop}
+use lib.ListN.{length}
 use Rattle.std.proofs.shelf.Lists.{take-rest}
 use Rattle.grantfile.specs.Format.{bodyAt, countOf, devicesOf, entryAt}
 use Rattle.grantfile.specs.Reading.{Sound}
 use Rattle.grantfile.proofs.Checks.{passed-entry, passed-within}
+use Rattle.grantfile.proofs.Places.{part-there}
 use Rattle.grantfile.proofs.file.GrantFile.body.Needs as need
 use Rattle.grantfile.proofs.file.GrantFile.body.Needs.{After-entry-start}
 
@@ -29,15 +30,8 @@ returns-in-Some c =
     record {
       cases =
           λ s.
-          let file = c .args .self .now .bytes .now in
-          let d = c .args .device in
-          let t = here ((need.at·returns-in-Some c) .After-entry-start) s in (
-            t .0,
-            c .in-Some .ensures tt .cases
-                ∙ ap (λ m. take (6 * m) (drop (c .entry-start .result .0) file)) (t .2)
-                ∙ ap (λ m. take (6 * countOf file d) (drop m file)) (t .1),
-            t .1,
-          );
+          let t = here ((need.at·returns-in-Some c) .After-entry-start) s in
+          (t .0, part-there (c .args .self .now .bytes .now) (c .in-Some .bytes .now) _ _ _ _ (t .1) (t .2) (c .in-Some .ensures tt .cases), t .1);
     }
 
 pub returns-in-None : need.returns-in-None
