@@ -7,12 +7,15 @@ use lib.ListN.{length, drop}
 use Rattle.std.specs.Iters.{counting}
 use Rattle.std.specs.Joined.{joined}
 use Rattle.std.specs.declared.option.Option.the-variants.{Some, None}
+use Rattle.std.specs.declared.result.Result.{Result}
+use Rattle.std.specs.declared.result.Result.the-variants.{Ok, Err}
 use Rattle.std.proofs.shelf.Tests.{le-ltb, ltb-false, eqb-true, not-false, cond-false}
 use Rattle.mesh.specs.declared.shape.Shape.{Shape}
 use Rattle.mesh.specs.Kind.{Kind}
 use Rattle.mesh.specs.Table.{rowsOf}
 use Rattle.grantfile.specs.declared.fault.Fault.{Fault}
 use Rattle.grantfile.specs.Format.{ShapeOf, devicesOf, pointsOf, entryAt, startOf, countOf, bodyAt}
+use Rattle.grantfile.specs.Inner.{EndChecked, ContentsChecked}
 use Rattle.grantfile.specs.Reading.{EntryRead}
 use Rattle.grantfile.specs.Tests.{first, entryTest, entriesTests, endTest, contentsTests, headTests, rowsTest, grantTests, bodyTests, bodiesTests, allTests}
 use Rattle.grantfile.proofs.Firsts.{under, first-past, first-stop, first-front, first-back, each-passed}
@@ -25,9 +28,14 @@ whole file h = cond-false _ _ _ (le-ltb _ _ h)
 pub entries-stop : (file : List ℕ) (f : Fault) → entryAt (devicesOf file) ≤ length file → first (entriesTests file) ≡ Some f → first (contentsTests file) ≡ Some f
 entries-stop file f h e = whole file h ∙ first-stop (entriesTests file) (endTest file ∷ []) f e
 
--- whole contents with right entries
-pub entries-past : (file : List ℕ) → entryAt (devicesOf file) ≤ length file → first (entriesTests file) ≡ None → first (contentsTests file) ≡ first (endTest file ∷ [])
+entries-past : (file : List ℕ) → entryAt (devicesOf file) ≤ length file → first (entriesTests file) ≡ None → first (contentsTests file) ≡ first (endTest file ∷ [])
 entries-past file h e = whole file h ∙ first-past (entriesTests file) (endTest file ∷ []) e
+
+-- whole contents with right entries: the end decides
+pub end-decides : (file : List ℕ) (r : Result (Unit {0}) Fault) → entryAt (devicesOf file) ≤ length file → first (entriesTests file) ≡ None
+    → EndChecked file r → ContentsChecked file r
+end-decides file (Ok u) h e t = entries-past file h e ∙ t
+end-decides file (Err f) h e t = entries-past file h e ∙ t
 
 -- what contents that pass say: they are whole, each body starts where its entry says, and lies within the file
 pub passed-whole : (file : List ℕ) → first (contentsTests file) ≡ None → entryAt (devicesOf file) ≤ length file

@@ -1,5 +1,6 @@
-mod Firsts
-mod Places
-mod Checks
-mod Written
-mod Devices
+-- The lemmas that the answers cite.
+pub mod Firsts
+pub mod Places
+pub mod Checks
+pub mod Written
+pub mod Devices

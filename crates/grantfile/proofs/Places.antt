@@ -4,7 +4,7 @@ use mathlib.Core.List.{List}
 use Prim.Native.Nat.{ℕ, zero, suc, _+_, _-_, _*_, _<_, _≤_}
 use native.Mathlib.Numerals.{add-one}
 use native.Mathlib.Omega.{arith}
-use lib.ListN.{length, getD, drop, length-drop}
+use lib.ListN.{length, getD, take, drop, length-drop}
 use Rattle.std.proofs.shelf.Lists.{getD-drop, drop-drop}
 use Rattle.grantfile.specs.Format.{byteAt, wordAt, devicesOf, entryAt, startOf, countOf, bodyAt}
 use Rattle.grantfile.specs.Reading.{EntryRead}
@@ -27,6 +27,10 @@ climbs file d (suc k) =
 
 pub body-rises : (file : List ℕ) (d e : ℕ) → d ≤ e → bodyAt file d ≤ bodyAt file e
 body-rises file d e h = let z : d + (e - d) ≡ e = omega arith in rw z at (climbs file d (e - d))
+
+-- a part of the file, by its right place and count
+pub part-there : (file part : List ℕ) (i j m n : ℕ) → i ≡ j → m ≡ n → part ≡ take (6 * m) (drop i file) → part ≡ take (6 * n) (drop j file)
+part-there file part i j m n p q e = e ∙ ap (λ c. take (6 * c) (drop i file)) q ∙ ap (λ s. take (6 * n) (drop s file)) p
 
 -- the entry of device d, read from the bytes that begin with it
 pub entry-there : (file bytes rest : List ℕ) (d start count : ℕ) → bytes ≡ drop (entryAt d) file → entryAt (d + 1) ≤ length file → EntryRead bytes start count rest

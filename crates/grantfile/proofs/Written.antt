@@ -49,14 +49,14 @@ rises f n h i (suc j) l m =
     go (inr ne) r s = let d : i < j = omega (arith, ne) in let q = r d (omega arith) in omega arith
 
 -- the points of a body that passes
-pub body-points : {W : Type 0} (k : Kind W) (file : List ℕ) (start n j : ℕ) → first (joined (grantTests k file start) (counting 0 n)) ≡ None → j < n
+pub points-inside : {W : Type 0} (k : Kind W) (file : List ℕ) (start n j : ℕ) → first (joined (grantTests k file start) (counting 0 n)) ≡ None → j < n
     → pointAt file (start + 6 * j) < pointsOf file
-body-points k file start n j e h =
+points-inside k file start n j e h =
     ordered file start j (under _ _ _ (joined-passed (grantTests k file start) n j h e) .0) .0
 
-pub body-rises : {W : Type 0} (k : Kind W) (file : List ℕ) (start n i j : ℕ) → first (joined (grantTests k file start) (counting 0 n)) ≡ None → i < j → j < n
+pub points-rise : {W : Type 0} (k : Kind W) (file : List ℕ) (start n i j : ℕ) → first (joined (grantTests k file start) (counting 0 n)) ≡ None → i < j → j < n
     → pointAt file (start + 6 * i) < pointAt file (start + 6 * j)
-body-rises k file start n i j e l h =
+points-rise k file start n i j e l h =
     rises (λ m. pointAt file (start + 6 * m)) n (λ m b. ordered file start m (under _ _ _ (joined-passed (grantTests k file start) n m b e) .0) .1) i j l h
 
 -- a grant whose tests pass is read

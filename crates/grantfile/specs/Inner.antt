@@ -1,21 +1,22 @@
--- What the reader's inner steps answer.
---     EntriesChecked file r    each entry starts where the body before it ends; where the last one ends
---     ContentsChecked file r   the contents and the end of the file are checked
---     PartOf bytes i n r       the n bytes from the place i on, if there are as many
---     GrantRow k file i row    the row is that of the grant at the place i
---     GrantRead k file s j r   the grant j of the body from s on is checked
---     BodyChecked k file s n r    n grants of the body from s on are checked
---     BodiesChecked k file r      all bodies are checked
---     Cleared k rows           every row is empty
---     BodyFilled k file s n rows  n grants of the body from s on stand in their rows, and every other row of the device is empty
---     FilledTo k n file rows      each grant of the first n devices stands in its row, and every other row of theirs is empty
+-- What the reader's inner steps answer, and what they leave.
+--     EntriesChecked file r         each entry starts where the body before it ends; the answer is where the last body ends
+--     EndChecked file r             the file ends there
+--     ContentsChecked file r        the contents are whole, their entries and the end are checked
+--     PartOf bytes i n r            the n bytes from the place i on, if there are as many
+--     GrantRow k file i row         the row is that of the grant at the place i
+--     GrantRead k file s j r        the grant j of the body from the place s on is checked, and its row made
+--     BodyChecked k file s n r      the first n grants of the body from s on are checked
+--     BodiesChecked k file r        all bodies are checked
+--     Cleared k rows                every row is empty
+--     BodyFilled k file s n rows    among the rows of one device, the first n grants of the body from s on stand in theirs, and every other row is empty
+--     FilledTo k n file rows        each grant of the first n devices stands in its row, and every other row of theirs is empty
 use mathlib.Core.Path.{_≡_}
-use mathlib.Core.List.{List}
+use mathlib.Core.List.{List, [], _∷_}
 use Prim.Native.Nat.{ℕ, _+_, _*_, _<_}
-use Rattle.std.specs.Iters.{counting}
-use Rattle.std.specs.Joined.{joined}
 use denote.Ref.{RefT, now}
 use lib.ListN.{length, getD, take, drop}
+use Rattle.std.specs.Iters.{counting}
+use Rattle.std.specs.Joined.{joined}
 use Rattle.std.specs.declared.option.Option.{Option}
 use Rattle.std.specs.declared.option.Option.the-variants.{Some, None}
 use Rattle.std.specs.declared.result.Result.{Result}
@@ -27,11 +28,15 @@ use Rattle.mesh.specs.Rights.{rightOf}
 use Rattle.mesh.specs.Rows.{emptyRow, grantRow}
 use Rattle.grantfile.specs.declared.fault.Fault.{Fault}
 use Rattle.grantfile.specs.Format.{devicesOf, pointsOf, countOf, bodyAt, grantAt, pointAt, letterAt, amountAt}
-use Rattle.grantfile.specs.Tests.{first, entriesTests, contentsTests, grantTests, bodiesTests}
+use Rattle.grantfile.specs.Tests.{first, entriesTests, endTest, contentsTests, grantTests, bodiesTests}
 
 abbrev pub EntriesChecked : List ℕ → Result ℕ Fault → Type 0
 EntriesChecked file (Ok end) = (first (entriesTests file) ≡ None) × (end ≡ bodyAt file (devicesOf file))
 EntriesChecked file (Err f) = first (entriesTests file) ≡ Some f
+
+abbrev pub EndChecked : List ℕ → Result (Unit {0}) Fault → Type 0
+EndChecked file (Ok u) = first (endTest file ∷ []) ≡ None
+EndChecked file (Err f) = first (endTest file ∷ []) ≡ Some f
 
 abbrev pub ContentsChecked : List ℕ → Result (Unit {0}) Fault → Type 0
 ContentsChecked file (Ok u) = first (contentsTests file) ≡ None

@@ -1,11 +1,16 @@
 -- What the reader tests, in its order, and what it finds.
---     Test            a test: whether it fails, and the fault that it then is
---     first ts        the fault of the first test that fails
---     headTests       four bytes, the first 47 hexadecimal, the caller's kind, a table's size
---     rowsTest        as many rows lent as the table has
---     contentsTests   the contents are whole, each entry starts where the body before it ends, the file ends with the last body
---     bodyTests       grant by grant: points that rise within the table, a right, an admitted amount
---     allTests        all of these, in this order
+--     Test                      a test: whether it fails, and the fault that it then is
+--     test b why i l            the test that fails where b holds, with the fault at the place i that the layer l finds
+--     first ts                  the fault of the first test that fails
+--     headTests kind file       four bytes, the first 47 hexadecimal, the caller's kind, a table's size
+--     rowsTest lent file        as many rows lent as the table has
+--     entriesTests file         each entry starts where the body before it ends
+--     endTest file              the file ends with the last body
+--     contentsTests file        the contents are whole, then entriesTests, then endTest
+--     outOfOrder file s j       a point outside the table, or not above that of the grant before it in the same body
+--     grantTests k file s j     the grant j of the body from the place s on: a point in order, a right, an admitted amount
+--     bodyTests, bodiesTests    grant by grant, device by device
+--     allTests k lent file      all of these, in this order: head, rows, contents, bodies
 use mathlib.Core.Bool.{Bool, true, false, cond, not, _||_, _&&_}
 use mathlib.Core.List.{List, [], _∷_, _++_, map}
 use Prim.Native.Nat.{ℕ, _+_, _-_, _*_, min}

@@ -2,8 +2,8 @@
 ghost use mathlib.Core.Path.{_≡_};
 ghost use Prim.Native.Nat.{_≤_};
 ghost use lib.ListN.{length};
-ghost use Rattle.grantfile.specs.Format.{devicesOf, entryAt};
-ghost use Rattle.grantfile.specs.Inner.{ContentsChecked, EntriesChecked};
+ghost use Rattle.grantfile.specs.Format.{bodyAt, devicesOf, entryAt};
+ghost use Rattle.grantfile.specs.Inner.{ContentsChecked, EndChecked, EntriesChecked};
 ghost use Rattle.grantfile.specs.Reading.{EntryRead};
 use super::fault::Fault;
 use super::fault::Layer;
@@ -49,6 +49,14 @@ pub(super) fn check_contents(file: &[u8], devices: usize) -> Result<(), Fault>
         return Err(Fault::of(Layer::Contents, Refusal::ShortContents, file.len()));
     }
     let end = check_entries(file, devices)?;
+    check_end(file, end)
+}
+
+// Checks that the file ends where its last body ends; else refused 7 at the smaller of the two places. Constant time.
+fn check_end(file: &[u8], end: usize) -> Result<(), Fault>
+    requires { ⌜ end ≡ bodyAt (now file) (devicesOf (now file)) ⌝ }
+    ensures cases { λ r. ⌜ EndChecked (now (file .entry)) r ⌝ }
+{
     if file.len() != end {
         return Err(Fault::of(Layer::Contents, Refusal::WrongEnd, file.len().min(end)));
     }

@@ -1,4 +1,5 @@
 // A file whose head, contents and end are checked, and the bodies in it.
+ghost use Rattle.std.specs.Vec.{made};
 ghost use Rattle.mesh.specs.Table.{Shaped};
 ghost use Rattle.grantfile.specs.Inner.{PartOf};
 ghost use Rattle.grantfile.specs.Reading.{Opened, Shown, Sound};
@@ -30,6 +31,7 @@ impl<'a> GrantFile<'a> {
     // contents and the end are checked. One step for each device.
     pub fn open(kind: u8, bytes: &'a [u8]) -> Result<GrantFile<'a>, Fault>
         ensures cases { λ r. ⌜ Opened kind (now (bytes .entry)) r ⌝ }
+        ensures sound { λ r. ⌜ made r Sound ⌝ }
     {
         let shape = head(kind, bytes)?;
         check_contents(bytes, shape.devices())?;
@@ -47,7 +49,8 @@ impl<'a> GrantFile<'a> {
         Shape::new(self.devices, self.points)
     }
 
-    // The body of a device, as a part of the file; outside the table refused 8 at place 0. Constant time.
+    // The body of a device, as a part of the file; outside the table refused 8 at place 0. For a file that `open`
+    // gave, which is sound, the tests of the file's length never refuse. Constant time.
     pub fn body(&self, device: u8) -> Result<Body<'a>, Fault>
         ensures cases { λ r. ⌜ (Sound (now (self .entry)) → Shown (now (now (self .entry) .bytes)) device r) ⌝ }
     {

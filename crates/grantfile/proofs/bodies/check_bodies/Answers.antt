@@ -2,15 +2,30 @@
 use mathlib.Core.Path.{_≡_, _∙_, ap}
 use Prim.Native.Nat.{_+_, _-_, _*_, _<_, _≤_}
 use native.Mathlib.Omega.{arith}
-use lib.ListN.{length}
+use lib.ListN.{length, drop}
 use Rattle.std.specs.Iters.{counting}
 use Rattle.std.specs.Joined.{joined}
 use Rattle.std.proofs.shelf.Lists.{take-rest}
-use Rattle.grantfile.specs.Format.{devicesOf}
+use Rattle.grantfile.specs.Format.{devicesOf, entryAt, bodyAt, countOf}
 use Rattle.grantfile.specs.Tests.{first, bodyTests}
-use Rattle.grantfile.proofs.Checks.{passed-whole, passed-entry, passed-within, body-tests}
+use Rattle.grantfile.proofs.Checks.{passed-entry, passed-within, body-tests}
 use Rattle.grantfile.proofs.Firsts.{handed-on, joined-step, joined-end, first-past, first-stop}
+use Rattle.grantfile.proofs.bodies.check_bodies.Given as given
 use Rattle.grantfile.proofs.bodies.check_bodies.Needs as need
+use Rattle.grantfile.proofs.bodies.check_bodies.Needs.{After-entry-start}
+
+-- the device of this turn is in the table, and its entry says where its body is
+here : (g : given.Over) (c : After-entry-start g)
+    → (c .loop .counter < devicesOf (c .args .file .now))
+    × (c .entry-start .result .0 ≡ bodyAt (c .args .file .now) (c .loop .counter))
+    × (c .entry-start .result .1 ≡ countOf (c .args .file .now) (c .loop .counter))
+    × (c .entry-start .result .2 .now ≡ drop (entryAt (c .loop .counter + 1)) (c .args .file .now))
+here g c =
+    let file = c .args .file .now in
+    let d = c .loop .counter in
+    let h : d < devicesOf file = omega (arith, c .pre .0) in
+    let t = passed-entry file (c .loop .rest .now) (c .entry-start .result .2 .now) d (c .entry-start .result .0) (c .entry-start .result .1) (c .pre .1 .1) h (c .loop .inv .0) (c .entry-start .ensures .whole) in
+    (h, t .0, t .1, t .2)
 
 pub loop-holds : need.loop-holds
 loop-holds g c =
@@ -23,10 +38,9 @@ loop-again g c =
     let file = c .args .file .now in
     let tests = bodyTests (g .W·Weight .meaning) file in
     let d = c .loop .counter in
-    let h : d < devicesOf file = omega (arith, c .pre .0) in
-    let t = passed-entry file (c .loop .rest .now) (c .entry-start .result .2 .now) d (c .entry-start .result .0) (c .entry-start .result .1) (c .pre .1 .1) h (c .loop .inv .0) (c .entry-start .ensures .whole) in
-    let b = body-tests (g .W·Weight .meaning) file d (c .entry-start .result .0) (c .entry-start .result .1) (t .0) (t .1) in (
-      t .2,
+    let t = here g ((need.at·loop-again g c) .After-entry-start) in
+    let b = body-tests (g .W·Weight .meaning) file d (c .entry-start .result .0) (c .entry-start .result .1) (t .1) (t .2) in (
+      t .3,
       c .loop .inv .1
           ∙ joined-step tests d (c .args .devices) (c .loop-test .taken)
           ∙ first-past (tests d) (joined tests (counting (d + 1) (c .args .devices - (d + 1)))) (b ∙ c .in-Continue-check-body .ensures tt .cases),
@@ -34,11 +48,8 @@ loop-again g c =
 
 pub check-body-requires : need.check-body-requires
 check-body-requires g c κs =
-    let file = c .args .file .now in
-    let d = c .loop .counter in
-    let h : d < devicesOf file = omega (arith, c .pre .0) in
-    let t = passed-entry file (c .loop .rest .now) (c .entry-start .result .2 .now) d (c .entry-start .result .0) (c .entry-start .result .1) (c .pre .1 .1) h (c .loop .inv .0) (c .entry-start .ensures .whole) in
-    let w = passed-within file d (c .pre .1 .1) h in
+    let t = here g ((need.at·check-body-requires g c) .After-entry-start) in
+    let w = passed-within (c .args .file .now) (c .loop .counter) (c .pre .1 .1) (t .0) in
     (c .pre .1 .0, omega arith)
 
 pub returns : need.returns
@@ -52,9 +63,8 @@ returns-in-Break-check-body g c =
     let file = c .args .file .now in
     let tests = bodyTests (g .W·Weight .meaning) file in
     let d = c .loop .counter in
-    let h : d < devicesOf file = omega (arith, c .pre .0) in
-    let t = passed-entry file (c .loop .rest .now) (c .entry-start .result .2 .now) d (c .entry-start .result .0) (c .entry-start .result .1) (c .pre .1 .1) h (c .loop .inv .0) (c .entry-start .ensures .whole) in
-    let b = body-tests (g .W·Weight .meaning) file d (c .entry-start .result .0) (c .entry-start .result .1) (t .0) (t .1) in
+    let t = here g ((need.at·returns-in-Break-check-body g c) .After-entry-start) in
+    let b = body-tests (g .W·Weight .meaning) file d (c .entry-start .result .0) (c .entry-start .result .1) (t .1) (t .2) in
     record {
       cases =
           rw (handed-on (c .from-residual .result) _ (c .from-residual .ensures .1))

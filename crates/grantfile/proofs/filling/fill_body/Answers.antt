@@ -5,7 +5,7 @@ use native.Mathlib.Omega.{arith}
 use lib.ListN.{length}
 use Rattle.grantfile.specs.Format.{pointAt, pointsOf}
 use Rattle.grantfile.specs.Inner.{BodyFilled}
-use Rattle.grantfile.proofs.Written.{none-filled, more-filled, grant-read, grant-row, body-points, body-rises}
+use Rattle.grantfile.proofs.Written.{none-filled, more-filled, grant-read, grant-row, points-inside, points-rise}
 use Rattle.grantfile.proofs.filling.fill_body.Needs as need
 
 pub unwrap-row-requires : need.unwrap-row-requires
@@ -21,10 +21,10 @@ loop-j-again g c =
     let file = c .args .file .now in
     let start = c .args .start in
     let j = c .loop-j .j in
-    let p = body-points k file start (c .args .count) j (c .pre .1) (c .loop-j-test .taken) in
+    let p = points-inside k file start (c .args .count) j (c .pre .1) (c .loop-j-test .taken) in
     let h : pointAt file (start + 6 * j) < length (c .loop-j .rows) = omega (arith, c .pre .0 .0) in
     more-filled k file start j (c .loop-j .rows) (c .unwrap-row .result) (c .loop-j .inv) h
-    (λ i l. body-rises k file start (c .args .count) i j (c .pre .1) l (c .loop-j-test .taken))
+    (λ i l. points-rise k file start (c .args .count) i j (c .pre .1) l (c .loop-j-test .taken))
     (grant-row k file start j (c .grant .result) (c .unwrap-row .result) (c .unwrap-row .ensures) (c .grant .ensures .cases))
 
 pub returns : need.returns
