@@ -4,3 +4,4 @@ pub mod Places
 pub mod Checks
 pub mod Written
 pub mod Devices
+pub mod Formed

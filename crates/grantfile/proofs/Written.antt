@@ -25,7 +25,7 @@ use Rattle.grantfile.specs.Tests.{first, outOfOrder, grantTests}
 use Rattle.grantfile.proofs.Firsts.{under, joined-passed}
 
 -- a grant that passes: its point is in the table, and above that of the grant before it
-ordered : (file : List ℕ) (start j : ℕ) → outOfOrder file start j ≡ false
+pub ordered : (file : List ℕ) (start j : ℕ) → outOfOrder file start j ≡ false
     → (pointAt file (start + 6 * j) < pointsOf file) × (0 < j → pointAt file (start + 6 * (j - 1)) < pointAt file (start + 6 * j))
 ordered file start j e =
     let p = or-parts _ _ e in

@@ -3,3 +3,4 @@ pub mod Format
 pub mod Tests
 pub mod Reading
 pub mod Inner
+pub mod Accepted

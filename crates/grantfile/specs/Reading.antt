@@ -1,7 +1,7 @@
 -- What the reader's calls answer, and what they leave.
 --     EntryRead bytes s n rest    the contents entry at the front of the bytes: start, count, and the bytes that follow
 --     Headed kind file r          the head is checked
---     Opened kind file r          head, contents and end are checked, and the file is held with the size of its table
+--     Opened kind file r          head, contents and end are checked, and the file is held with the number of its devices
 --     Sound g                     the file is one whose contents and end pass, as every file is that was opened
 --     Shown file d r              the body of device d, as a part of the file
 --     Filled k s file rows        each grant of the file stands in its row, and every other row of the table is empty
@@ -41,7 +41,7 @@ Headed kind file (Err f) = first (headTests kind file) ≡ Some f
 abbrev pub Opened : ℕ → List ℕ → Result GrantFile Fault → Type 0
 Opened kind file (Ok g) =
     (first (headTests kind file ++ contentsTests file) ≡ None)
-    × (now (g .bytes) ≡ file) × (g .devices ≡ devicesOf file) × (g .points ≡ pointsOf file)
+    × (now (g .bytes) ≡ file) × (g .devices ≡ devicesOf file)
 Opened kind file (Err f) = first (headTests kind file ++ contentsTests file) ≡ Some f
 
 abbrev pub Sound : GrantFile → Type 0

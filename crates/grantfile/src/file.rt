@@ -1,6 +1,5 @@
 // A file whose head, contents and end are checked, and the bodies in it.
 ghost use Rattle.std.specs.Vec.{made};
-ghost use Rattle.mesh.specs.Table.{Shaped};
 ghost use Rattle.grantfile.specs.Inner.{PartOf};
 ghost use Rattle.grantfile.specs.Reading.{Opened, Shown, Sound};
 use super::entries::check_contents;
@@ -9,14 +8,12 @@ use super::fault::Fault;
 use super::fault::Layer;
 use super::heading::head;
 use mesh::refusal::Refusal;
-use mesh::shape::Shape;
 
-// The bytes of a file, and the size of the table that they name. Only `open` makes one.
+// The bytes of a file, and the number of devices that they name. Only `open` makes one.
 #[derive(Clone, Copy)]
 pub struct GrantFile<'a> {
     bytes: &'a [u8],
     devices: u8,
-    points: u8,
 }
 
 // A device's body as a part of its file, and the place in the file at which it starts.
@@ -38,15 +35,7 @@ impl<'a> GrantFile<'a> {
         Ok(GrantFile {
             bytes,
             devices: shape.devices() as u8,
-            points: shape.points() as u8,
         })
-    }
-
-    // The size of the table in the file; never refused for a file that `open` gave. Constant time.
-    pub fn shape(&self) -> Result<Shape, Refusal>
-        ensures cases { λ r. ⌜ Shaped (now (self .entry) .devices) (now (self .entry) .points) r ⌝ }
-    {
-        Shape::new(self.devices, self.points)
     }
 
     // The body of a device, as a part of the file; outside the table refused 8 at place 0. For a file that `open`
