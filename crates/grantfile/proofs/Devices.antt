@@ -1,7 +1,7 @@
 -- The rows of the table, device by device.
-use mathlib.Core.Path.{_≡_, refl, sym, _∙_, ap, subst}
-use mathlib.Core.List.{List, _++_}
-use mathlib.Core.Logic.{_⊎_, inl, inr, _≢_}
+use mathlib.Core.Path.{_≡_, sym, _∙_, ap, subst}
+use mathlib.Core.List.{List}
+use mathlib.Core.Logic.{_⊎_, inl, inr}
 use Prim.Native.Nat.{ℕ, suc, _+_, _-_, _*_, _<_, _≤_}
 use native.Mathlib.Nat.{suc-mul, mul-le-mul-right}
 use native.Mathlib.Numerals.{add-one}
@@ -16,7 +16,7 @@ use Rattle.mesh.specs.declared.shape.Shape.{Shape}
 use Rattle.mesh.specs.Kind.{Kind}
 use Rattle.mesh.specs.Rows.{emptyRow}
 use Rattle.mesh.specs.Table.{rowsOf}
-use Rattle.grantfile.specs.Format.{ShapeOf, devicesOf, pointsOf, countOf, bodyAt, grantAt, pointAt}
+use Rattle.grantfile.specs.Format.{ShapeOf, pointsOf, countOf, bodyAt, grantAt, pointAt}
 use Rattle.grantfile.specs.Inner.{GrantRow, BodyFilled, FilledTo}
 use Rattle.grantfile.specs.Reading.{Filled}
 

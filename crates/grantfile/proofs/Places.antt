@@ -1,12 +1,12 @@
 -- Where the bodies start, and what an entry read in its place says.
-use mathlib.Core.Path.{_≡_, refl, sym, _∙_, ap}
+use mathlib.Core.Path.{_≡_, refl, _∙_, ap}
 use mathlib.Core.List.{List}
-use Prim.Native.Nat.{ℕ, zero, suc, _+_, _-_, _*_, _<_, _≤_}
+use Prim.Native.Nat.{ℕ, zero, suc, _+_, _-_, _*_, _≤_}
 use native.Mathlib.Numerals.{add-one}
 use native.Mathlib.Omega.{arith}
 use lib.ListN.{length, getD, take, drop, length-drop}
 use Rattle.std.proofs.shelf.Lists.{getD-drop, drop-drop}
-use Rattle.grantfile.specs.Format.{byteAt, wordAt, devicesOf, entryAt, startOf, countOf, bodyAt}
+use Rattle.grantfile.specs.Format.{devicesOf, entryAt, startOf, countOf, bodyAt}
 use Rattle.grantfile.specs.Reading.{EntryRead}
 
 pub body-first : (file : List ℕ) → bodyAt file 0 ≡ entryAt (devicesOf file)

@@ -11,7 +11,7 @@
 --     grantTests k file s j     the grant j of the body from the place s on: a point in order, a right, an admitted amount
 --     bodyTests, bodiesTests    grant by grant, device by device
 --     allTests k lent file      all of these, in this order: head, rows, contents, bodies
-use mathlib.Core.Bool.{Bool, true, false, cond, not, _||_, _&&_}
+use mathlib.Core.Bool.{Bool, cond, not, _||_, _&&_}
 use mathlib.Core.List.{List, [], _∷_, _++_, map}
 use Prim.Native.Nat.{ℕ, _+_, _-_, _*_, min}
 use lib.Dec.{eqb, ltb, leb}

@@ -22,7 +22,7 @@ pub fn entry(bytes: &[u8]) -> (u16, u8, &[u8])
 
 // The end of the last body, where each entry starts where the body before it ends; else refused 6 at the first
 // entry that does not. One step for each device.
-pub(super) fn check_entries(file: &[u8], devices: usize) -> Result<usize, Fault>
+fn check_entries(file: &[u8], devices: usize) -> Result<usize, Fault>
     requires { ⌜ devices ≡ devicesOf (now file) ⌝ ∗ ⌜ devices ≤ 64 ⌝ ∗ ⌜ entryAt devices ≤ length (now file) ⌝ }
     ensures cases { λ r. ⌜ EntriesChecked (now (file .entry)) r ⌝ }
 {

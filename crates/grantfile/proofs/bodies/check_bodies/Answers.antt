@@ -1,8 +1,8 @@
 -- One body: its entry is read in its place, and its grants pass, or hold the first that does not.
 use mathlib.Core.Path.{_≡_, _∙_, ap}
-use Prim.Native.Nat.{_+_, _-_, _*_, _<_, _≤_}
+use Prim.Native.Nat.{_+_, _-_, _<_}
 use native.Mathlib.Omega.{arith}
-use lib.ListN.{length, drop}
+use lib.ListN.{drop}
 use Rattle.std.specs.Iters.{counting}
 use Rattle.std.specs.Joined.{joined}
 use Rattle.std.proofs.shelf.Lists.{take-rest}

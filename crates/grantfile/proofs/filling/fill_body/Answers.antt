@@ -3,7 +3,7 @@ use mathlib.Core.Path.{_≡_, subst}
 use Prim.Native.Nat.{ℕ, _+_, _*_, _<_}
 use native.Mathlib.Omega.{arith}
 use lib.ListN.{length}
-use Rattle.grantfile.specs.Format.{pointAt, pointsOf}
+use Rattle.grantfile.specs.Format.{pointAt}
 use Rattle.grantfile.specs.Inner.{BodyFilled}
 use Rattle.grantfile.proofs.Written.{none-filled, more-filled, grant-read, grant-row, points-inside, points-rise}
 use Rattle.grantfile.proofs.filling.fill_body.Needs as need

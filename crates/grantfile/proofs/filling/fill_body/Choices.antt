@@ -1,5 +1,4 @@
 -- The grants so far stand in their rows, and the other rows are empty.
-use mathlib.Core.Path.{_≡_}
 use Rattle.grantfile.specs.Inner.{BodyFilled}
 use Rattle.grantfile.proofs.filling.fill_body.Given as given
 
