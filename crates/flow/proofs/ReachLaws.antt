@@ -3,13 +3,13 @@ use mathlib.Core.Path.{_≡_, refl, sym, ap, _∙_, subst}
 use mathlib.Core.Bool.{Bool, true, false}
 use mathlib.Core.List.{List}
 use mathlib.Core.Logic.{_⊎_, inl, inr}
-use Prim.Native.Nat.{ℕ, zero, suc, _+_, _-_, _^_, _≤_, _<_, max}
+use Prim.Native.Nat.{ℕ, _+_, _-_, _≤_, max}
 use native.Mathlib.Omega.{arith}
 use native.Mathlib.Nat.{le-refl}
 use lib.Count.{ones}
 use lib.Dec.{eqb}
 use lib.ListN.{getD}
-use borrow.Author.Tests.{eq-eqb, eqb-true, eqb-false}
+use borrow.Author.Tests.{eq-eqb, eqb-true}
 use Rattle.flow.specs.Sets.{bit, flag, Member}
 use Rattle.flow.specs.Flow.{Rights, Source, Path, step, further}
 use Rattle.flow.specs.Followers.{Follows, Followers}
@@ -32,16 +32,6 @@ pub record Dealt (words : List ℕ) (seen next after : ℕ) : Type 0 where
   pub enters : Member next after
   pub closed : (i j : ℕ) → Member i after → bit seen i ≡ 0 → Follows words i j → Member j after
   pub reached : (i : ℕ) → Member i after → bit seen i ≡ 0 → (i ≡ next) ⊎ Path (Follows words) next i
-
-pub going-start : (words : List ℕ) (entered device : ℕ) → Going words entered device entered (getD words device 0)
-going-start words e d = record {
-  keeps = λ i. le-refl (bit e i);
-  grows = le-refl (ones e);
-  closed = λ i j m z f. absurd (omega arith);
-  reached = λ i m z. absurd (omega arith);
-  pending = λ j. omega arith;
-  among = λ j. le-refl (bit (getD words d 0) j);
-}
 
 pub dealt-before : (words : List ℕ) (seen next : ℕ) → Member next seen → Dealt words seen next seen
 dealt-before words seen n m = record {

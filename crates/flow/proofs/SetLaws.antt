@@ -6,7 +6,7 @@ use Prim.Native.Nat.{ℕ, zero, suc, _+_, _-_, _*_, _/_, _%_, _^_, _≤_, _<_, m
 use native.Mathlib.Nat.{mod-lt, pow-suc, div-eq-of-lt, zero-div, one-mul, eq-or-lt-of-le, add-comm, mul-assoc, zero-mul, lt-of-lt-of-le, zero-add, le-of-suc-le-suc, not-suc-le-zero, div-one}
 use native.Mathlib.Numerals.{add-one}
 use native.Mathlib.Omega.{arith}
-use lib.Dec.{eqb, ltb, lit<, eqb·zero-suc, eqb·suc-zero, eqb·suc-suc}
+use lib.Dec.{eqb, lit<, eqb·zero-suc, eqb·suc-zero, eqb·suc-suc}
 use lib.Arith.{digits-mod, bin-ind}
 use lib.Pow.{pow-pos, pow-mono, pow-lt, shr-shr}
 use lib.Bits.{bitAnd, bitOr, and-step, or-step, and-shr, or-shr, or-shifted, or-shifted-r, and-mask, and-le-l, or-lt}
@@ -183,10 +183,6 @@ bit-not (suc k) w (suc i) h l =
 pub bit-high : (k w i : ℕ) → w < 2 ^ k → k ≤ i → bit w i ≡ 0
 unfolding bit
 bit-high k w i h l = ap (λ (x : ℕ). x % 2) (div-eq-of-lt (lt-of-lt-of-le h (pow-mono l)))
-
--- a word with a member is not 0, and one with none is
-pub word-zero : (k w : ℕ) → w < 2 ^ k → ((i : ℕ) → i < k → bit w i ≡ 0) → w ≡ 0
-word-zero k w h f = bit-ext k w 0 h (pow-pos k) (λ i l. f i l ∙ sym (bit-none i))
 
 -- ---- the set of the numbers below n that pass a test
 

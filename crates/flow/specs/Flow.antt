@@ -9,10 +9,10 @@
 --     Ring g           two or more different devices, each a source of the next, and the last of the first
 --     OnRing g d p     the grant of d at p writes or reads at one step of a ring
 use mathlib.Core.Path.{_≡_}
-use mathlib.Core.Bool.{Bool, true, false, cond, _&&_}
+use mathlib.Core.Bool.{cond, _&&_}
 use mathlib.Core.List.{List, [], _∷_, _++_, map}
 use mathlib.Core.Logic.{_⊎_}
-use Prim.Native.Nat.{ℕ, _+_, _*_, _<_, _≤_}
+use Prim.Native.Nat.{ℕ, _+_, _≤_}
 use lib.Dec.{T, ltb}
 use lib.ListN.{length, getD}
 use Rattle.mesh.specs.declared.right.Right.{Right}

@@ -2,7 +2,6 @@
 --     Waits words left b    a device that is left is a source of b
 --     NextOf words left r   the lowest device that is left and does not wait, or none where all wait
 --     Listed g n r          the whole list, or none where a ring stands
-use mathlib.Core.Path.{_≡_}
 use mathlib.Core.List.{List}
 use Prim.Native.Nat.{ℕ, _<_}
 use lib.ListN.{take}

@@ -4,7 +4,6 @@
 --     FlowOrder g n xs    xs lists each of n devices once, at each position the lowest that is ready
 --     RingAnswer, OrderAnswer    what the calls answer over lent rows, and what they leave in lent memory
 use mathlib.Core.Path.{_≡_}
-use mathlib.Core.Bool.{true, false}
 use mathlib.Core.List.{List}
 use mathlib.Core.Logic.{_⊎_}
 use Prim.Native.Nat.{ℕ, _<_, _≤_}

@@ -1,6 +1,6 @@
 // Which points each device reads and which it writes, from the rows of a table.
 ghost use mathlib.Core.Path.{_≡_};
-ghost use Prim.Native.Nat.{ℕ, _+_, _<_, _≤_};
+ghost use Prim.Native.Nat.{_+_, _<_, _≤_};
 ghost use lib.ListN.{length};
 ghost use Rattle.flow.specs.Flow.{rights, rightAt};
 ghost use Rattle.mesh.specs.Rights.{canRead, canWrite};

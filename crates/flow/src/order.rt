@@ -1,9 +1,7 @@
 // The devices in flow order, and whether a ring stands in the way.
-ghost use mathlib.Core.Path.{_≡_};
 ghost use Prim.Native.Nat.{ℕ, _<_, _≤_};
 ghost use lib.ListN.{length};
 ghost use Rattle.flow.specs.Flow.{rights};
-ghost use Rattle.flow.specs.Followers.{Follows};
 ghost use Rattle.flow.specs.Listing.{Waits, NextOf, Listed};
 ghost use Rattle.flow.specs.Order.{RingAnswer, OrderAnswer};
 ghost use Rattle.flow.specs.Sets.{Member};

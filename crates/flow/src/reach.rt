@@ -1,5 +1,4 @@
 // Which devices the flow of one device comes to.
-ghost use mathlib.Core.Path.{_≡_};
 ghost use Prim.Native.Nat.{_<_};
 ghost use Rattle.flow.specs.Reach.{ReachAnswer};
 ghost use Rattle.flow.specs.Visit.{Visited};

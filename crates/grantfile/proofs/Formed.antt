@@ -1,10 +1,10 @@
 -- A file passes all tests exactly if it is well formed, and rows enough are lent.
 use mathlib.Core.Path.{_≡_, refl, sym, ap, subst, _∙_}
-use mathlib.Core.Bool.{Bool, true, false, not, cond, _||_, _&&_}
+use mathlib.Core.Bool.{Bool, true, false, not}
 use mathlib.Core.List.{List, [], _∷_, _++_, map}
 use Prim.Native.Nat.{ℕ, zero, suc, _+_, _-_, _*_, _<_, _≤_}
 use native.Mathlib.Omega.{arith}
-use lib.Dec.{T, eqb, ltb, leb}
+use lib.Dec.{T, ltb, leb}
 use lib.ListN.{length}
 use Rattle.std.specs.Iters.{counting}
 use Rattle.std.specs.Joined.{joined}
@@ -18,10 +18,9 @@ use Rattle.mesh.specs.declared.right.Right.{Right}
 use Rattle.mesh.specs.declared.row.Row.{Row}
 use Rattle.mesh.specs.declared.shape.Shape.{Shape}
 use Rattle.mesh.specs.Kind.{Kind}
-use Rattle.mesh.specs.Rights.{rightOf}
 use Rattle.grantfile.specs.declared.fault.Fault.{Fault}
 use Rattle.grantfile.specs.Accepted.{Granted, WellFormed, Accepts}
-use Rattle.grantfile.specs.Format.{byteAt, devicesOf, pointsOf, entryAt, startOf, countOf, bodyAt, grantAt, pointAt, letterAt, amountAt}
+use Rattle.grantfile.specs.Format.{byteAt, devicesOf, pointsOf, entryAt, startOf, countOf, bodyAt, grantAt, pointAt}
 use Rattle.grantfile.specs.Reading.{ReadInto}
 use Rattle.grantfile.specs.Tests.{Test, first, outOfRange, outOfOrder, headTests, rowsTest, entryTest, entriesTests, endTest, contentsTests, grantTests, bodyTests, bodiesTests, allTests}
 use Rattle.grantfile.proofs.Checks.{passed-start, passed-end}

@@ -26,7 +26,7 @@ use Rattle.grantfile.specs.declared.fault.Fault.{Fault}
 use Rattle.grantfile.specs.declared.fault.Layer.the-variants as layer
 use Rattle.grantfile.specs.declared.file.Body.{Body}
 use Rattle.grantfile.specs.declared.file.GrantFile.{GrantFile}
-use Rattle.grantfile.specs.Format.{byteAt, wordAt, ShapeOf, devicesOf, pointsOf, bodyAt, countOf, grantAt, pointAt, letterAt, amountAt}
+use Rattle.grantfile.specs.Format.{byteAt, wordAt, ShapeOf, devicesOf, bodyAt, countOf, grantAt, pointAt, letterAt, amountAt}
 use Rattle.grantfile.specs.Tests.{first, headTests, contentsTests, allTests}
 
 -- from fewer than three bytes zeros and no bytes

@@ -29,7 +29,7 @@ abbrev pub fileOf : List ℕ → List ℕ
 fileOf input = take 65536 input
 
 abbrev pub namesPeak : List ℕ → Bool
-namesPeak file = eqb (byteAt file 1) 2
+namesPeak file = eqb (byteAt file 1) (peakKind .number)
 
 -- as many rows as the largest table has
 abbrev pub lentRows : ℕ

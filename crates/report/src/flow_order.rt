@@ -22,6 +22,10 @@ use mesh::weight::Weight;
 use std::alloc::AllocError;
 use std::alloc::Global;
 
+// How many bytes count as the file, and as many rows as the largest table has.
+const MOST_BYTES: usize = 65536;
+const MOST_ROWS: usize = 64 * 64;
+
 // The line on a table's order.
 fn ordered<W: Weight>(heap: Global, shape: Shape, rows: &[Row<W>]) -> Result<String, AllocError>
     requires { ⌜ rowsOf shape ≤ length (now rows) ⌝ }
@@ -38,7 +42,7 @@ fn ordered<W: Weight>(heap: Global, shape: Shape, rows: &[Row<W>]) -> Result<Str
 fn answer<W: Weight + Clone>(heap: Global, file: &[u8]) -> Result<String, AllocError>
     ensures made { λ r. ⌜ made r (λ t. Answered (W·Weight .meaning) (now (file .entry)) (string-bytes t)) ⌝ }
 {
-    let mut rows = vec![in heap; Row::<W>::empty(); 4096]?;
+    let mut rows = vec![in heap; Row::<W>::empty(); MOST_ROWS]?;
     match read(file, rows.as_mut_slice()) {
         Ok(shape) => ordered(heap, shape, rows.as_slice()),
         Err(fault) => refused_line(heap, fault.why, fault.place),
@@ -49,10 +53,10 @@ fn answer<W: Weight + Clone>(heap: Global, file: &[u8]) -> Result<String, AllocE
 fn file_part(input: &[u8]) -> &[u8]
     ensures value { λ r. ⌜ now r ≡ fileOf (now (input .entry)) ⌝ }
 {
-    if input.len() < 65536 {
+    if input.len() < MOST_BYTES {
         input
     } else {
-        &input[0..65536]
+        &input[0..MOST_BYTES]
     }
 }
 
@@ -60,7 +64,7 @@ fn file_part(input: &[u8]) -> &[u8]
 fn names_peak(file: &[u8]) -> bool
     ensures value { λ r. ⌜ r ≡ namesPeak (now (file .entry)) ⌝ }
 {
-    file.len() >= 2 && file[1] == 2
+    file.len() >= 2 && file[1] == Peak::kind()
 }
 
 // All the bytes that `floworder` prints for its input: `order` and the devices in flow order, or `refused`, the

@@ -19,7 +19,7 @@ fn is_admitted(number: u32) -> bool
 
 impl Steps {
     // The step on which the weight stands. Constant time.
-    pub fn step(self) -> u8
+    fn step(self) -> u8
         ensures value { λ r. ⌜ r ≡ stepOf self ⌝ }
     {
         self.height / 10

@@ -1,10 +1,10 @@
-use mathlib.Core.Path.{_≡_, refl, sym, subst}
-use Prim.Native.Nat.{ℕ, _<_, _≤_}
+use mathlib.Core.Path.{refl, sym, subst}
+use Prim.Native.Nat.{_≤_}
 use native.Mathlib.Omega.{arith}
 use Rattle.flow.specs.Flow.{rights}
 use Rattle.flow.specs.Order.{FlowOrder}
 use Rattle.flow.proofs.FlowLaws.{source-within}
-use Rattle.flow.proofs.OrderLaws.{ListedTo, Within, listed-none, listed-more, listed-stuck, listed-all}
+use Rattle.flow.proofs.OrderLaws.{Within, listed-none, listed-more, listed-stuck, listed-all}
 use lib.ListN.{take}
 use Rattle.flow.proofs.order.listing.Needs as need
 

@@ -1,9 +1,8 @@
-use mathlib.Core.Path.{_≡_, sym, ap, _∙_}
-use mathlib.Core.Logic.{_⊎_, inl, inr}
-use Prim.Native.Nat.{ℕ, _-_}
+use mathlib.Core.Path.{_≡_, ap, _∙_}
+use Prim.Native.Nat.{_-_}
 use native.Mathlib.Omega.{arith}
-use Rattle.flow.specs.Sets.{bit, Member}
-use Rattle.flow.proofs.SetLaws.{bit-lt, bit-none, bit-choice}
+use Rattle.flow.specs.Sets.{bit}
+use Rattle.flow.proofs.SetLaws.{bit-lt, bit-none}
 use Rattle.flow.proofs.order.next_device.Needs as need
 
 pub returns-then-ready-eq0 : need.returns-then-ready-eq0

@@ -1,10 +1,10 @@
-use mathlib.Core.Path.{_≡_, sym, ap, _∙_}
+use mathlib.Core.Path.{sym}
 use native.Mathlib.Omega.{arith}
-use lib.Count.{ones, ones-le}
+use lib.Count.{ones-le}
 use borrow.Author.Tests.{eqb-true}
 use Rattle.flow.specs.Sets.{bit}
 use Rattle.flow.proofs.SetLaws.{not-member}
-use Rattle.flow.proofs.ReachLaws.{Going, going-more, going-end, dealt-now, dealt-before}
+use Rattle.flow.proofs.ReachLaws.{going-more, going-end, dealt-now, dealt-before}
 use Rattle.flow.proofs.reach.+visit.Needs as need
 
 pub visit-seen-requires : need.visit-seen-requires
