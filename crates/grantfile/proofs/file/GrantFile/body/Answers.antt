@@ -1,8 +1,6 @@
 -- In a sound file a body starts where its entry says, and lies within the file.
-use mathlib.Core.Path.{_≡_}
-use Prim.Native.Nat.{_+_, _*_, _<_, _≤_}
+use Prim.Native.Nat.{_<_}
 use native.Mathlib.Omega.{arith}
-use lib.ListN.{length}
 use Rattle.std.proofs.shelf.Lists.{take-rest}
 use Rattle.grantfile.specs.Format.{devicesOf, entryAt}
 use Rattle.grantfile.specs.Reading.{Sound}
