@@ -58,20 +58,29 @@ passed-within file d e h =
     let l = passed-end file e in
     omega arith
 
--- an entry read in its place, of contents that pass
+-- what an entry says that is read in its place, of contents that pass
+pub record Placed (file : List ℕ) (d start count : ℕ) (rest : List ℕ) : Type 0 where
+  pub inside : d < devicesOf file
+  pub start-is : start ≡ bodyAt file d
+  pub count-is : count ≡ countOf file d
+  pub rest-is : rest ≡ drop (entryAt (d + 1)) file
+  pub within : start + 6 * count ≤ length file
+
 pub passed-entry : (file bytes rest : List ℕ) (d start count : ℕ) → first (contentsTests file) ≡ None → d < devicesOf file → bytes ≡ drop (entryAt d) file
-    → EntryRead bytes start count rest → (start ≡ bodyAt file d) × (count ≡ countOf file d) × (rest ≡ drop (entryAt (d + 1)) file)
+    → EntryRead bytes start count rest → Placed file d start count rest
 passed-entry file bytes rest d start count e h b r =
     let w = passed-whole file e in
     let t = entry-there file bytes rest d start count b (omega arith) r in
-    (t .0 ∙ passed-start file d e h, t .1, t .2)
+    let p = passed-start file d e h in
+    let l = passed-within file d e h in
+    record { inside = h; start-is = t .0 ∙ p; count-is = t .1; rest-is = t .2; within = omega arith }
 
 -- the tests of a body, by where its entry says that it is
-pub body-tests : {W : Type 0} (k : Kind W) (file : List ℕ) (d start count : ℕ) → start ≡ bodyAt file d → count ≡ countOf file d
+pub body-tests : {W : Type 0} (k : Kind W) (file : List ℕ) (d start count : ℕ) (rest : List ℕ) → Placed file d start count rest
     → first (bodyTests k file d) ≡ first (joined (grantTests k file start) (counting 0 count))
-body-tests k file d start count s n =
-    ap (λ m. first (joined (grantTests k file m) (counting 0 (countOf file d)))) (sym s)
-    ∙ ap (λ m. first (joined (grantTests k file start) (counting 0 m))) (sym n)
+body-tests k file d start count rest p =
+    ap (λ m. first (joined (grantTests k file m) (counting 0 (countOf file d)))) (sym (p .start-is))
+    ∙ ap (λ m. first (joined (grantTests k file start) (counting 0 m))) (sym (p .count-is))
 
 -- what is left to test once the head passes and there are rows enough, and once the contents pass too
 pub past-rows : {W : Type 0} (k : Kind W) (lent kind : ℕ) (file : List ℕ) (s : Shape) → kind ≡ k .number → (first (headTests kind file) ≡ None) × ShapeOf file s

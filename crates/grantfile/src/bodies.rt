@@ -34,7 +34,8 @@ fn long(file: &[u8], at: usize) -> u32
 // Whether the point of the grant `j` of the body from `start` on is in the table, and above that of the grant
 // before it.
 fn in_order(file: &[u8], points: usize, start: usize, j: usize) -> bool
-    requires { ⌜ points ≡ pointsOf (now file) ⌝ ∗ ⌜ start + 6 * j + 6 ≤ length (now file) ⌝ }
+    requires points { ⌜ points ≡ pointsOf (now file) ⌝ }
+    requires within { ⌜ start + 6 * j + 6 ≤ length (now file) ⌝ }
     ensures value { λ r. ⌜ not r ≡ outOfOrder (now (file .entry)) start j ⌝ }
 {
     let point = file[start + 6 * j];
@@ -48,7 +49,8 @@ pub(super) fn grant<W: Weight>(
     start: usize,
     j: usize,
 ) -> Result<Row<W>, Fault>
-    requires { ⌜ points ≡ pointsOf (now file) ⌝ ∗ ⌜ start + 6 * j + 6 ≤ length (now file) ⌝ }
+    requires points { ⌜ points ≡ pointsOf (now file) ⌝ }
+    requires within { ⌜ start + 6 * j + 6 ≤ length (now file) ⌝ }
     ensures cases { λ r. ⌜ GrantRead (W·Weight .meaning) (now (file .entry)) start j r ⌝ }
 {
     let place = start + 6 * j;
@@ -71,7 +73,8 @@ fn check_body<W: Weight>(
     start: usize,
     count: usize,
 ) -> Result<(), Fault>
-    requires { ⌜ points ≡ pointsOf (now file) ⌝ ∗ ⌜ start + 6 * count ≤ length (now file) ⌝ }
+    requires points { ⌜ points ≡ pointsOf (now file) ⌝ }
+    requires within { ⌜ start + 6 * count ≤ length (now file) ⌝ }
     ensures cases { λ r. ⌜ BodyChecked (W·Weight .meaning) (now (file .entry)) start count r ⌝ }
 {
     for j in 0..count {
@@ -86,7 +89,9 @@ pub(super) fn check_bodies<W: Weight>(
     devices: usize,
     points: usize,
 ) -> Result<(), Fault>
-    requires { ⌜ devices ≡ devicesOf (now file) ⌝ ∗ ⌜ points ≡ pointsOf (now file) ⌝ ∗ ⌜ first (contentsTests (now file)) ≡ None ⌝ }
+    requires devices { ⌜ devices ≡ devicesOf (now file) ⌝ }
+    requires points { ⌜ points ≡ pointsOf (now file) ⌝ }
+    requires contents { ⌜ first (contentsTests (now file)) ≡ None ⌝ }
     ensures cases { λ r. ⌜ BodiesChecked (W·Weight .meaning) (now (file .entry)) r ⌝ }
 {
     let mut rest = &file[4..];

@@ -12,7 +12,7 @@ use mesh::refusal::Refusal;
 // The start and the count of the contents entry at the front of the bytes, and the bytes that follow it;
 // from fewer than three bytes zeros and no bytes. Constant time.
 pub fn entry(bytes: &[u8]) -> (u16, u8, &[u8])
-    ensures whole { λ r. ⌜ EntryRead (now (bytes .entry)) (r .0) (r .1) (now (r .2)) ⌝ }
+    ensures cases { λ r. ⌜ EntryRead (now (bytes .entry)) (r .0) (r .1) (now (r .2)) ⌝ }
 {
     match bytes {
         [high, low, count, rest @ ..] => (u16::from(*high) * 256 + u16::from(*low), *count, rest),
@@ -23,7 +23,9 @@ pub fn entry(bytes: &[u8]) -> (u16, u8, &[u8])
 // The end of the last body, where each entry starts where the body before it ends; else refused 6 at the first
 // entry that does not. One step for each device.
 fn check_entries(file: &[u8], devices: usize) -> Result<usize, Fault>
-    requires { ⌜ devices ≡ devicesOf (now file) ⌝ ∗ ⌜ devices ≤ 64 ⌝ ∗ ⌜ entryAt devices ≤ length (now file) ⌝ }
+    requires devices { ⌜ devices ≡ devicesOf (now file) ⌝ }
+    requires few { ⌜ devices ≤ 64 ⌝ }
+    requires whole { ⌜ entryAt devices ≤ length (now file) ⌝ }
     ensures cases { λ r. ⌜ EntriesChecked (now (file .entry)) r ⌝ }
 {
     let mut rest = &file[4..];
@@ -42,7 +44,8 @@ fn check_entries(file: &[u8], devices: usize) -> Result<usize, Fault>
 // Checks that the contents are whole (else refused 5), that each entry starts where the body before it ends (6),
 // and that the file ends with its last body (7), in this order. One step for each device.
 pub(super) fn check_contents(file: &[u8], devices: usize) -> Result<(), Fault>
-    requires { ⌜ devices ≡ devicesOf (now file) ⌝ ∗ ⌜ devices ≤ 64 ⌝ }
+    requires devices { ⌜ devices ≡ devicesOf (now file) ⌝ }
+    requires few { ⌜ devices ≤ 64 ⌝ }
     ensures cases { λ r. ⌜ ContentsChecked (now (file .entry)) r ⌝ }
 {
     if file.len() < 4 + 3 * devices {

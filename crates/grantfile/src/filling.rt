@@ -28,9 +28,10 @@ fn clear_rows<W: Weight>(rows: &mut [Row<W>])
 // Writes each of `count` grants of the body from `start` on whole into its row, the rows being a device's, and
 // empty. One step for each grant.
 fn fill_body<W: Weight>(file: &[u8], start: usize, count: usize, rows: &mut [Row<W>])
-    requires { ⌜ length (now rows) ≡ pointsOf (now file) ⌝ ∗ ⌜ start + 6 * count ≤ length (now file) ⌝ }
-    requires { ⌜ first (joined (grantTests (W·Weight .meaning) (now file) start) (counting 0 count)) ≡ None ⌝ }
-    requires { ⌜ Cleared (W·Weight .meaning) (now rows) ⌝ }
+    requires points { ⌜ length (now rows) ≡ pointsOf (now file) ⌝ }
+    requires within { ⌜ start + 6 * count ≤ length (now file) ⌝ }
+    requires passed { ⌜ first (joined (grantTests (W·Weight .meaning) (now file) start) (counting 0 count)) ≡ None ⌝ }
+    requires cleared { ⌜ Cleared (W·Weight .meaning) (now rows) ⌝ }
     ensures after { λ _. ⌜ BodyFilled (W·Weight .meaning) (now (file .entry)) start count (now (rows .exit)) ⌝ }
 {
     for j in 0..count {
@@ -42,8 +43,9 @@ fn fill_body<W: Weight>(file: &[u8], start: usize, count: usize, rows: &mut [Row
 // Makes the rows of a device empty, and then writes the grants of its body into them. One step for each row and
 // grant.
 fn fill_device<W: Weight>(file: &[u8], start: usize, count: usize, rows: &mut [Row<W>])
-    requires { ⌜ length (now rows) ≡ pointsOf (now file) ⌝ ∗ ⌜ start + 6 * count ≤ length (now file) ⌝ }
-    requires { ⌜ first (joined (grantTests (W·Weight .meaning) (now file) start) (counting 0 count)) ≡ None ⌝ }
+    requires points { ⌜ length (now rows) ≡ pointsOf (now file) ⌝ }
+    requires within { ⌜ start + 6 * count ≤ length (now file) ⌝ }
+    requires passed { ⌜ first (joined (grantTests (W·Weight .meaning) (now file) start) (counting 0 count)) ≡ None ⌝ }
     ensures after { λ _. ⌜ BodyFilled (W·Weight .meaning) (now (file .entry)) start count (now (rows .exit)) ⌝ }
 {
     clear_rows(rows);
@@ -53,10 +55,10 @@ fn fill_device<W: Weight>(file: &[u8], start: usize, count: usize, rows: &mut [R
 // Fills the rows of the table from a file whose tests pass, device by device, and leaves the rows past the table.
 // One step for each row and grant.
 pub(super) fn fill<W: Weight>(file: &[u8], shape: Shape, rows: &mut [Row<W>])
-    requires { ⌜ ShapeOf (now file) shape ⌝ }
-    requires { ⌜ rowsOf shape ≤ length (now rows) ⌝ }
-    requires { ⌜ first (contentsTests (now file)) ≡ None ⌝ }
-    requires { ⌜ first (bodiesTests (W·Weight .meaning) (now file)) ≡ None ⌝ }
+    requires named { ⌜ ShapeOf (now file) shape ⌝ }
+    requires lent { ⌜ rowsOf shape ≤ length (now rows) ⌝ }
+    requires contents { ⌜ first (contentsTests (now file)) ≡ None ⌝ }
+    requires bodies { ⌜ first (bodiesTests (W·Weight .meaning) (now file)) ≡ None ⌝ }
     ensures table { λ _. ⌜ Filled (W·Weight .meaning) shape (now (file .entry)) (now (rows .exit)) ⌝ }
     ensures beyond { λ _. ⌜ drop (rowsOf shape) (now (rows .exit)) ≡ drop (rowsOf shape) (now (rows .entry)) ⌝ }
 {

@@ -2,13 +2,12 @@
 use mathlib.Core.Path.{_≡_, _∙_, ap}
 use Prim.Native.Nat.{_+_, _-_, _<_}
 use native.Mathlib.Omega.{arith}
-use lib.ListN.{drop}
 use Rattle.std.specs.Iters.{counting}
 use Rattle.std.specs.Joined.{joined}
 use Rattle.std.proofs.shelf.Lists.{take-rest}
-use Rattle.grantfile.specs.Format.{devicesOf, entryAt, bodyAt, countOf}
+use Rattle.grantfile.specs.Format.{devicesOf}
 use Rattle.grantfile.specs.Tests.{first, bodyTests}
-use Rattle.grantfile.proofs.Checks.{passed-entry, passed-within, body-tests}
+use Rattle.grantfile.proofs.Checks.{Placed, passed-entry, body-tests}
 use Rattle.grantfile.proofs.Firsts.{handed-on, joined-step, joined-end, first-past, first-stop}
 use Rattle.grantfile.proofs.bodies.check_bodies.Given as given
 use Rattle.grantfile.proofs.bodies.check_bodies.Needs as need
@@ -16,21 +15,15 @@ use Rattle.grantfile.proofs.bodies.check_bodies.Needs.{After-entry-start}
 
 -- the device of this turn is in the table, and its entry says where its body is
 here : (g : given.Over) (c : After-entry-start g)
-    → (c .loop .counter < devicesOf (c .args .file .now))
-    × (c .entry-start .result .0 ≡ bodyAt (c .args .file .now) (c .loop .counter))
-    × (c .entry-start .result .1 ≡ countOf (c .args .file .now) (c .loop .counter))
-    × (c .entry-start .result .2 .now ≡ drop (entryAt (c .loop .counter + 1)) (c .args .file .now))
+    → Placed (c .args .file .now) (c .loop .counter) (c .entry-start .result .0) (c .entry-start .result .1) (c .entry-start .result .2 .now)
 here g c =
-    let file = c .args .file .now in
-    let d = c .loop .counter in
-    let h : d < devicesOf file = omega (arith, c .pre .0) in
-    let t = passed-entry file (c .loop .rest .now) (c .entry-start .result .2 .now) d (c .entry-start .result .0) (c .entry-start .result .1) (c .pre .1 .1) h (c .loop .inv .0) (c .entry-start .ensures .whole) in
-    (h, t .0, t .1, t .2)
+    let h : c .loop .counter < devicesOf (c .args .file .now) = omega (arith, c .pre .devices) in
+    passed-entry (c .args .file .now) (c .loop .rest .now) _ _ _ _ (c .pre .contents) h (c .loop .inv .0) (c .entry-start .ensures .cases)
 
 pub loop-holds : need.loop-holds
 loop-holds g c =
     let file = c .args .file .now in
-    let n : devicesOf file ≡ c .args .devices - 0 = omega (arith, c .pre .0) in
+    let n : devicesOf file ≡ c .args .devices - 0 = omega (arith, c .pre .devices) in
     (take-rest file 4, ap (λ m. first (joined (bodyTests (g .W·Weight .meaning) file) (counting 0 m))) n)
 
 pub loop-again : need.loop-again
@@ -38,19 +31,16 @@ loop-again g c =
     let file = c .args .file .now in
     let tests = bodyTests (g .W·Weight .meaning) file in
     let d = c .loop .counter in
-    let t = here g ((need.at·loop-again g c) .After-entry-start) in
-    let b = body-tests (g .W·Weight .meaning) file d (c .entry-start .result .0) (c .entry-start .result .1) (t .1) (t .2) in (
-      t .3,
+    let t = here g ((need.at·loop-again g c) .After-entry-start) in (
+      t .rest-is,
       c .loop .inv .1
           ∙ joined-step tests d (c .args .devices) (c .loop-test .taken)
-          ∙ first-past (tests d) (joined tests (counting (d + 1) (c .args .devices - (d + 1)))) (b ∙ c .in-Continue-check-body .ensures tt .cases),
+          ∙ first-past (tests d) (joined tests (counting (d + 1) (c .args .devices - (d + 1)))) (body-tests (g .W·Weight .meaning) file d _ _ _ t ∙ c .in-Continue-check-body .ensures tt .cases),
     )
 
 pub check-body-requires : need.check-body-requires
 check-body-requires g c κs =
-    let t = here g ((need.at·check-body-requires g c) .After-entry-start) in
-    let w = passed-within (c .args .file .now) (c .loop .counter) (c .pre .1 .1) (t .0) in
-    (c .pre .1 .0, omega arith)
+    record { points = c .pre .points; within = here g ((need.at·check-body-requires g c) .After-entry-start) .within }
 
 pub returns : need.returns
 returns g c =
@@ -64,11 +54,10 @@ returns-in-Break-check-body g c =
     let tests = bodyTests (g .W·Weight .meaning) file in
     let d = c .loop .counter in
     let t = here g ((need.at·returns-in-Break-check-body g c) .After-entry-start) in
-    let b = body-tests (g .W·Weight .meaning) file d (c .entry-start .result .0) (c .entry-start .result .1) (t .1) (t .2) in
     record {
       cases =
           rw (handed-on (c .from-residual .result) _ (c .from-residual .ensures .1))
           (c .loop .inv .1
           ∙ joined-step tests d (c .args .devices) (c .loop-test .taken)
-          ∙ first-stop (tests d) (joined tests (counting (d + 1) (c .args .devices - (d + 1)))) _ (b ∙ c .in-Break-check-body .ensures tt .cases));
+          ∙ first-stop (tests d) (joined tests (counting (d + 1) (c .args .devices - (d + 1)))) _ (body-tests (g .W·Weight .meaning) file d _ _ _ t ∙ c .in-Break-check-body .ensures tt .cases));
     }

@@ -29,7 +29,7 @@ here : (c : After-entry-start)
     × (c .entry-start .result .2 .now ≡ drop (entryAt (c .loop-d .d + 1)) (c .args .file .now))
 here c =
     entry-there (c .args .file .now) (c .loop-d .rest .now) (c .entry-start .result .2 .now) (c .loop-d .d) (c .entry-start .result .0) (c .entry-start .result .1) (c .loop-d .inv .0) (omega arith)
-    (c .entry-start .ensures .whole)
+    (c .entry-start .ensures .cases)
 
 pub loop-d-again : need.loop-d-again
 loop-d-again c =

@@ -9,7 +9,7 @@ use Rattle.grantfile.proofs.entries.entry.Needs as need
 pub returns-in-len3-up : need.returns-in-len3-up
 returns-in-len3-up c =
     record {
-      whole =
+      cases =
           record {
             whole = λ h. (omega arith, search needs, take-all _ _ (simp length-drop (omega arith)));
             short = λ h. absurd (omega (arith, ltb-false));

@@ -10,10 +10,10 @@ use Rattle.grantfile.proofs.filling.fill_body.Needs as need
 
 pub unwrap-row-requires : need.unwrap-row-requires
 unwrap-row-requires g c κs =
-    grant-read (g .W·Weight .meaning) (c .args .file .now) (c .args .start) (c .args .count) (c .loop-j .j) (c .grant .result) (c .pre .1) (c .loop-j-test .taken) (c .grant .ensures .cases)
+    grant-read (g .W·Weight .meaning) (c .args .file .now) (c .args .start) (c .args .count) (c .loop-j .j) (c .grant .result) (c .pre .passed) (c .loop-j-test .taken) (c .grant .ensures .cases)
 
 pub loop-j-holds : need.loop-j-holds
-loop-j-holds g c = none-filled (g .W·Weight .meaning) (c .args .file .now) (c .args .start) (c .args .rows .now) (c .pre .2)
+loop-j-holds g c = none-filled (g .W·Weight .meaning) (c .args .file .now) (c .args .start) (c .args .rows .now) (c .pre .cleared)
 
 pub loop-j-again : need.loop-j-again
 loop-j-again g c =
@@ -21,10 +21,10 @@ loop-j-again g c =
     let file = c .args .file .now in
     let start = c .args .start in
     let j = c .loop-j .j in
-    let p = points-inside k file start (c .args .count) j (c .pre .1) (c .loop-j-test .taken) in
-    let h : pointAt file (start + 6 * j) < length (c .loop-j .rows) = omega (arith, c .pre .0 .0) in
+    let p = points-inside k file start (c .args .count) j (c .pre .passed) (c .loop-j-test .taken) in
+    let h : pointAt file (start + 6 * j) < length (c .loop-j .rows) = omega (arith, c .pre .points) in
     more-filled k file start j (c .loop-j .rows) (c .unwrap-row .result) (c .loop-j .inv) h
-    (λ i l. points-rise k file start (c .args .count) i j (c .pre .1) l (c .loop-j-test .taken))
+    (λ i l. points-rise k file start (c .args .count) i j (c .pre .passed) l (c .loop-j-test .taken))
     (grant-row k file start j (c .grant .result) (c .unwrap-row .result) (c .unwrap-row .ensures) (c .grant .ensures .cases))
 
 pub returns : need.returns
