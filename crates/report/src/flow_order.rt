@@ -24,6 +24,7 @@ use std::alloc::Global;
 
 // How many bytes count as the file, and as many rows as the largest table has.
 const MOST_BYTES: usize = 65536;
+
 const MOST_ROWS: usize = 64 * 64;
 
 // The line on a table's order.
