@@ -1,8 +1,10 @@
 // Grant files, whole and damaged: the faults that the reader finds, and what `floworder` answers.
+use grantfile::entries::entry;
 use grantfile::fault::Fault;
 use grantfile::fault::FaultDebug;
 use grantfile::fault::FaultPartialEq;
 use grantfile::fault::Layer;
+use grantfile::file::GrantFile;
 use grantfile::reading::read;
 use mesh::refusal::Refusal;
 use mesh::right::Right;
@@ -132,6 +134,39 @@ fn grants_fill_their_rows_and_no_others() -> Result<(), Fail> {
     check_eq(rows[2].right, Right::Empty)?;
     check_eq(rows[3].right, Right::Empty)?;
     check_eq(rows[4].right, Right::Both)
+}
+
+#[test]
+fn bodies_are_parts_of_the_file() -> Result<(), Fail> {
+    let Ok(file) = GrantFile::open(1, RING) else {
+        return Err(Fail::new("the file is refused"));
+    };
+    let Ok(body) = file.body(1) else {
+        return Err(Fail::new("the body is refused"));
+    };
+    check_eq(body.place, 22)?;
+    check_eq(body.bytes, b"\x00a\x00\x00\x00\x04\x01r\x00\x00\x00\x09")?;
+    let outside = Fault {
+        why: Refusal::OutsideTable,
+        place: 0,
+        layer: Layer::Body,
+    };
+    match file.body(2) {
+        Ok(_) => Err(Fail::new("there is no third body")),
+        Err(fault) => check_eq(fault, outside),
+    }
+}
+
+#[test]
+fn an_entry_and_what_follows() -> Result<(), Fail> {
+    let (start, count, rest) = entry(b"\x01\x02\x03\x04");
+    check_eq(start, 258)?;
+    check_eq(count, 3)?;
+    check_eq(rest, b"\x04")?;
+    let (start, count, rest) = entry(b"\x01\x02");
+    check_eq(start, 0)?;
+    check_eq(count, 0)?;
+    check_eq(rest.len(), 0)
 }
 
 // Wants the answer of `floworder` to the input.
