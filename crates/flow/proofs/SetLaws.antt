@@ -8,7 +8,7 @@ use native.Mathlib.Numerals.{add-one}
 use native.Mathlib.Omega.{arith}
 use lib.Dec.{eqb, lit<, eqb·zero-suc, eqb·suc-zero, eqb·suc-suc}
 use lib.Arith.{digits-mod, bin-ind}
-use lib.Pow.{pow-pos, pow-mono, pow-lt, shr-shr}
+use lib.Pow.{pow-mono, pow-lt, shr-shr}
 use lib.Bits.{bitAnd, bitOr, and-step, or-step, and-shr, or-shr, or-shifted, or-shifted-r, and-mask, and-le-l, or-lt}
 use lib.Count.{ones, onesIn, ones-step, ones-cat, trailingZeros, under}
 use borrow.Author.Tests.{eq-eqb, ne-eqb, eqb-true, eqb-false}
