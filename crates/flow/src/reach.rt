@@ -1,6 +1,8 @@
 // Which devices the flow of one device comes to.
 ghost use Prim.Native.Nat.{_<_};
-ghost use Rattle.flow.specs.Reach.{ReachAnswer};
+ghost use Rattle.flow.specs.Flow.{Rights};
+ghost use Rattle.flow.specs.Followers.{Followers};
+ghost use Rattle.flow.specs.Reach.{ReachAnswer, Reaches};
 ghost use Rattle.flow.specs.Visit.{Visited};
 use super::followers::follower_words;
 use super::sets::count;
@@ -36,6 +38,18 @@ fn visit(words: &[u64; 64], entered: u64, device: usize) -> u64
     seen
 }
 
+// The devices that the flow of a device comes to, by the follower words.
+fn reached_from(words: &[u64; 64], device: usize) -> Reached
+    requires { ⌜ device < 64 ⌝ }
+    ensures value { λ r. ⌜ ((g : Rights) → Followers g (now (words .entry)) → Reaches g device r) ⌝ }
+{
+    let devices = visit(words, 0, device);
+    Reached {
+        devices,
+        count: count(devices),
+    }
+}
+
 // The devices that the flow of a device comes to in one or more steps, and their number: the device itself is
 // among them where it lies on a ring. Refused 4 where the rows are too few, then 8 outside the table.
 // Costs a follower table, and one look at each follower of each device entered.
@@ -50,9 +64,5 @@ pub fn reach<W>(shape: Shape, rows: &[Row<W>], device: u8) -> Result<Reached, Re
         return Err(Refusal::OutsideTable);
     }
     let words = follower_words(shape, rows);
-    let devices = visit(&words, 0, from);
-    Ok(Reached {
-        devices,
-        count: count(devices),
-    })
+    Ok(reached_from(&words, from))
 }
