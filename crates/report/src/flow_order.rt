@@ -22,9 +22,10 @@ use mesh::weight::Weight;
 use std::alloc::AllocError;
 use std::alloc::Global;
 
-// How many bytes count as the file, and as many rows as the largest table has.
-const MOST_BYTES: usize = 65536;
+// How many bytes of an input count as the file.
+pub const MOST_BYTES: usize = 65536;
 
+// As many rows as the largest table has.
 const MOST_ROWS: usize = 64 * 64;
 
 // The line on a table's order.
