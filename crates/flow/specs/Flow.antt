@@ -1,5 +1,6 @@
 -- Where flow goes in a table, by the rights in it.
 --     Rights           a right for each device and point, the empty one outside the table
+--     placed s rs      the rights rs, listed row by row, in the table
 --     rights s rows    the rights that stand in the rows of a table
 --     Source g a b     a is a source of b, and b a follower of a: they differ, and a writes a point that b reads
 --     Path R a b       from a to b in one or more steps of R; flow of a comes to b by Path (Source g) a b
@@ -28,8 +29,11 @@ Rights = ℕ → ℕ → Right
 abbrev pub rightAt : {W : Type 0} → List (Row W) → ℕ → Right
 rightAt rows i = getD (map (λ r. r .right) rows) i Empty
 
+abbrev pub placed : Shape → List Right → Rights
+placed s rs d p = cond (ltb d (s .devices) && ltb p (s .points)) (getD rs (rowOf s d p) Empty) Empty
+
 abbrev pub rights : {W : Type 0} → Shape → List (Row W) → Rights
-rights s rows d p = cond (ltb d (s .devices) && ltb p (s .points)) (rightAt rows (rowOf s d p)) Empty
+rights s rows = placed s (map (λ r. r .right) rows)
 
 pub record Source (g : Rights) (a b : ℕ) : Type 0 where
   pub apart : a ≡ b → ⊥

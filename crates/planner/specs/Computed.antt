@@ -1,0 +1,99 @@
+-- Walk and ledger as functions that compute. They are proved to agree with the relations.
+--     Tests                  tests for a question's two propositions
+--     outcomeOf, leads       the test that settles a visit, and where it leaves the walk
+--     walks k q t b p        the visits made within the budget b, and where they lead
+--     tell k s l c           the answer to a call, and the ledger that it leaves
+--     run k s l cs           the answers to a list of calls, and the last ledger
+use mathlib.Core.Bool.{Bool, true, false, cond, not}
+use mathlib.Core.List.{List, [], _∷_}
+use Prim.Native.Nat.{ℕ, zero, suc, _+_}
+use lib.ListN.{set}
+use Rattle.std.specs.declared.option.Option.{Option}
+use Rattle.std.specs.declared.option.Option.the-variants.{Some, None}
+use Rattle.mesh.specs.declared.shape.Shape.{Shape}
+use Rattle.mesh.specs.Kind.{Kind}
+use Rattle.mesh.specs.Table.{rowOf}
+use Rattle.planner.specs.declared.walk.Outcome.{Outcome}
+use Rattle.planner.specs.declared.walk.Outcome.the-variants as by
+use Rattle.planner.specs.declared.calls.Call.{Call}
+use Rattle.planner.specs.declared.calls.Call.the-variants as call
+use Rattle.planner.specs.declared.calls.Lent.{Lent}
+use Rattle.planner.specs.declared.calls.Answer.{Answer}
+use Rattle.planner.specs.declared.calls.Answer.the-variants as says
+use Rattle.planner.specs.Grants.{Slot, rightsIn, without, only}
+use Rattle.planner.specs.Walk.{Node, keep, Question, after, Place, at}
+use Rattle.planner.specs.Search.{kept, revoked}
+use Rattle.planner.specs.Ledger.{Search, Ledger, book, searching, slotAt, nodeLeft, refusal, admitted, freshness, reading, started, moved, asks, plan}
+use Rattle.planner.specs.RingTests.{hasRing, toDecide}
+
+pub record Tests : Type 0 where
+  pub hopeless : Node → Bool
+  pub solved : Node → Bool
+
+abbrev pub ringTests : {W : Type 0} → Shape → List (Slot W) → List ℕ → Tests
+ringTests s xs ds = record {
+  hopeless = λ n. hasRing s (rightsIn s (only (kept ds n) xs));
+  solved = λ n. not (hasRing s (rightsIn s (without (revoked ds n) xs)));
+}
+
+abbrev pub isNoLess : {W : Type 0} → Kind W → Question W → Option Node → Node → Bool
+isNoLess k q None n = false
+isNoLess k q (Some b) n = k .atMost (q .weight b) (q .weight n)
+
+abbrev pub outcomeOf : {W : Type 0} → Kind W → Question W → Tests → Node → Option Node → Outcome
+outcomeOf k q t n b = cond (isNoLess k q b n) by.NoLess (cond (t .hopeless n) by.RingKept (cond (t .solved n) by.BestPlan by.Opened))
+
+abbrev pub leads : Outcome → Node → Option Node → Place
+leads by.NoLess n b = at (after n) b
+leads by.RingKept n b = at (after n) b
+leads by.BestPlan n b = at (after n) (Some n)
+leads by.Opened n b = at (Some (keep ∷ n)) b
+
+abbrev pub walks : {W : Type 0} → Kind W → Question W → Tests → ℕ → Option Node → Option Node → ℕ × Place
+walks k q t zero next b = (0, at next b)
+walks k q t (suc budget) None b = (0, at None b)
+walks k q t (suc budget) (Some n) b =
+    let p = leads (outcomeOf k q t n b) n b in
+    let w = walks k q t budget (p .next) (p .best) in
+    (suc (w .0), w .1)
+
+-- the search q after an advance
+abbrev pub advanced : {W : Type 0} → Kind W → Shape → Search W → ℕ → Search W
+advanced k s q b =
+    let w = walks k (asks k s q) (ringTests s (q .slots) (q .rows)) b (q .place .next) (q .place .best) in
+    moved q (q .visits + w .0) (w .1)
+
+-- calls that are admitted and not refused
+abbrev pub makesOnBook : {W : Type 0} → Kind W → Shape → List (Slot W) → Call → Answer W × Ledger W
+makesOnBook k s xs (call.Write d p r a) = (says.Written (freshness (slotAt s xs d p)), book (set xs (rowOf s d p) (Some (record { right = r; weight = k .of a }))))
+makesOnBook k s xs (call.Erase d p) = (says.Erased, book (set xs (rowOf s d p) None))
+makesOnBook k s xs (call.Read d p) = (reading k (slotAt s xs d p), book xs)
+makesOnBook k s xs call.Start = (says.Started, searching xs (started xs (toDecide s xs)))
+makesOnBook k s xs (call.Advance b) = (says.Misuse, book xs)
+makesOnBook k s xs call.Take = (says.Misuse, book xs)
+makesOnBook k s xs call.Abandon = (says.Misuse, book xs)
+
+abbrev pub makesOnSearch : {W : Type 0} → Kind W → Shape → List (Slot W) → Search W → Call → Answer W × Ledger W
+makesOnSearch k s xs q (call.Write d p r a) = (says.Misuse, searching xs q)
+makesOnSearch k s xs q (call.Erase d p) = (says.Misuse, searching xs q)
+makesOnSearch k s xs q (call.Read d p) = (says.Misuse, searching xs q)
+makesOnSearch k s xs q call.Start = (says.Misuse, searching xs q)
+makesOnSearch k s xs q (call.Advance b) =
+    let m = advanced k s q b in
+    (says.Advanced (record { visits = m .visits; ended = not (nodeLeft (m .place)) }), searching xs m)
+makesOnSearch k s xs q call.Take = elim (q .place .best) [ Some n ↦ (plan k q n, book (without (revoked (q .rows) n) xs)) | None ↦ (says.Misuse, searching xs q) ]
+makesOnSearch k s xs q call.Abandon = (says.Abandoned, book xs)
+
+abbrev pub makes : {W : Type 0} → Kind W → Shape → Ledger W → Call → Answer W × Ledger W
+makes k s (book xs) c = makesOnBook k s xs c
+makes k s (searching xs q) c = makesOnSearch k s xs q c
+
+abbrev pub tell : {W : Type 0} → Kind W → Shape → Ledger W → Lent → Answer W × Ledger W
+tell k s l c = cond (admitted l (c .call)) (elim (refusal k s l (c .call) (c .rows)) [ Some why ↦ (says.Refused why, l) | None ↦ makes k s l (c .call) ]) (says.Misuse, l)
+
+abbrev pub run : {W : Type 0} → Kind W → Shape → Ledger W → List Lent → List (Answer W) × Ledger W
+run k s l [] = ([], l)
+run k s l (c ∷ cs) =
+    let one = tell k s l c in
+    let rest = run k s (one .1) cs in
+    (one .0 ∷ rest .0, rest .1)

@@ -1,0 +1,92 @@
+-- The law that runs obey.
+--     Exact k q plan xs ys c    a plan taken is what it is said to be: the search q, its answer, the slots right before and right after, the grants c
+--     Cheapest k s q w          no set of grants that stood when the search q started, and whose removal leaves no ring, weighs less than w
+--     Taking ..                 a plan taken within a run: the run is cut there, and what is promised of the plan holds
+--     Law k s cs as last        told, ringless, exact, cheapest and counted: of the calls cs, their answers as and the ledger that they lead to
+use mathlib.Core.Path.{_≡_}
+use mathlib.Core.Bool.{false}
+use mathlib.Core.List.{List, [], _∷_, _++_}
+use Prim.Native.Nat.{ℕ, _+_}
+use lib.Dec.{T}
+use lib.ListN.{getD}
+use Rattle.std.specs.declared.option.Option.the-variants.{None}
+use Rattle.mesh.specs.declared.shape.Shape.{Shape}
+use Rattle.mesh.specs.Kind.{Kind}
+use Rattle.flow.specs.Flow.{Ring}
+use Rattle.planner.specs.declared.calls.Lent.{Lent}
+use Rattle.planner.specs.declared.calls.Plan.{Plan}
+use Rattle.planner.specs.declared.calls.Written.{Written}
+use Rattle.planner.specs.declared.calls.Written.the-variants.{Fresh, Replaced}
+use Rattle.planner.specs.declared.calls.Answer.{Answer}
+use Rattle.planner.specs.declared.calls.Answer.the-variants as says
+use Rattle.planner.specs.Grants.{Slot, RowSet, rightsIn, without, weightOf, numberOf, standing}
+use Rattle.planner.specs.Ledger.{Search, Ledger, book, searching, slotsOf, isVacant, opened, Told, Run}
+
+pub record Exact {W : Type 0} (k : Kind W) (q : Search W) (plan : Plan W) (slots left : List (Slot W)) (grants : RowSet) : Type 0 where
+  -- they stood when the search started
+  pub stood : (i : ℕ) → T (grants i) → isVacant (getD (q .slots) i None) ≡ false
+  pub weight : plan .weight ≡ weightOf k grants (q .slots)
+  pub number : plan .grants ≡ numberOf grants (q .slots)
+  -- no slot has changed since the start, and exactly theirs are emptied
+  pub unchanged : slots ≡ q .slots
+  pub emptied : left ≡ without grants slots
+
+abbrev pub Cheapest : {W : Type 0} → Kind W → Shape → Search W → W → Type 0
+Cheapest k s q w = (rival : RowSet) → (Ring (rightsIn s (without rival (q .slots))) → ⊥) → T (k .atMost w (weightOf k rival (q .slots)))
+
+pub record Taking {W : Type 0} (k : Kind W) (s : Shape) (cs : List Lent) (earlier : List (Answer W)) (plan : Plan W) (later : List (Answer W)) (last : Ledger W) : Type 0 where
+  -- the run up to the take, the take, and the run after it
+  pub before : List Lent
+  pub call : Lent
+  pub rest : List Lent
+  pub calls : cs ≡ before ++ (call ∷ rest)
+  pub owner : Search W
+  pub slots : List (Slot W)
+  pub left : List (Slot W)
+  pub until : Run k s (opened s) before earlier (searching slots owner)
+  pub here : Told k s (searching slots owner) call (says.Taken plan) (book left)
+  pub on : Run k s (book left) rest later last
+  -- what is promised
+  pub grants : RowSet
+  pub ringless : Ring (rightsIn s left) → ⊥
+  pub exact : Exact k owner plan slots left grants
+  pub cheapest : Cheapest k s owner (plan .weight)
+
+-- fresh 1, replaced 0
+abbrev pub freshNumber : Written → ℕ
+freshNumber Fresh = 1
+freshNumber Replaced = 0
+
+-- the grants that an answer tells of as new
+abbrev pub came : {W : Type 0} → Answer W → ℕ
+came (says.Refused why) = 0
+came says.Misuse = 0
+came (says.Written w) = freshNumber w
+came says.Erased = 0
+came (says.Read r w) = 0
+came says.Started = 0
+came (says.Advanced p) = 0
+came (says.Taken p) = 0
+came says.Abandoned = 0
+
+-- the grants that an answer tells of as gone: one erased, or those of a plan taken
+abbrev pub went : {W : Type 0} → Answer W → ℕ
+went (says.Refused why) = 0
+went says.Misuse = 0
+went (says.Written w) = 0
+went says.Erased = 1
+went (says.Read r w) = 0
+went says.Started = 0
+went (says.Advanced p) = 0
+went (says.Taken p) = p .grants
+went says.Abandoned = 0
+
+abbrev pub total : {W : Type 0} → (Answer W → ℕ) → List (Answer W) → ℕ
+total f [] = 0
+total f (a ∷ answers) = f a + total f answers
+
+pub record Law {W : Type 0} (k : Kind W) (s : Shape) (cs : List Lent) (answers : List (Answer W)) (last : Ledger W) : Type 0 where
+  pub told : Run k s (opened s) cs answers last
+  -- ringless, exact and cheapest, wherever an answer is a plan taken
+  pub fair : (earlier : List (Answer W)) (plan : Plan W) (later : List (Answer W)) → answers ≡ earlier ++ (says.Taken plan ∷ later) → Taking k s cs earlier plan later last
+  pub counted : standing (slotsOf last) + total went answers ≡ total came answers

@@ -1,0 +1,44 @@
+-- What is proved of every walk and every run, as statements that contracts name.
+--     Settles          the search's condition follows from the one before it, the test that settled the visit, and the keeps left
+--     EndsWithin q m   the walk over q makes at most m visits, goes on while a node is left, and ends with a best plan
+--     MostVisits k n r the walk over n grants to decide ends within 2^(n+1) − 1 visits, which r is where it fits in 64 bits
+--     RunsObey k       every run obeys the law
+--     RunsAreTold k    every list of calls has one run, and it is the one that computes
+use mathlib.Core.Path.{_≡_}
+use mathlib.Core.List.{List}
+use Prim.Native.Nat.{ℕ, _+_, _-_, _^_, _≤_}
+use lib.ListN.{length}
+use Rattle.std.specs.declared.option.Option.{Option}
+use Rattle.std.specs.declared.option.Option.the-variants.{Some, None}
+use Rattle.mesh.specs.declared.shape.Shape.{Shape}
+use Rattle.mesh.specs.Kind.{Kind}
+use Rattle.planner.specs.declared.calls.Lent.{Lent}
+use Rattle.planner.specs.declared.calls.Answer.{Answer}
+use Rattle.planner.specs.declared.walk.Outcome.{Outcome}
+use Rattle.planner.specs.Grants.{Slot}
+use Rattle.planner.specs.Walk.{Node, Question, Place, at, begun, Visit, Walked, condition, settled, hasKeep}
+use Rattle.planner.specs.Search.{Decides, ringQuestion}
+use Rattle.planner.specs.Ledger.{Ledger, opened, Run}
+use Rattle.planner.specs.Law.{Law}
+use Rattle.planner.specs.Computed.{run}
+
+pub record EndsWithin {W : Type 0} (k : Kind W) (s : Shape) (xs : List (Slot W)) (ds : List ℕ) (most : ℕ) : Type 0 where
+  pub few : (v : ℕ) (p : Place) → Walked k (ringQuestion k s xs ds) v begun p → v ≤ most
+  pub onward : (v : ℕ) (n : Node) (b : Option Node) → Walked k (ringQuestion k s xs ds) v begun (at (Some n) b)
+      → (t : Outcome) × (p : Place) × Visit k (ringQuestion k s xs ds) n b t p
+  pub ends : (v : ℕ) × (n : Node) × Walked k (ringQuestion k s xs ds) v begun (at None (Some n))
+
+abbrev pub WalksEnd : {W : Type 0} → Kind W → Type 0
+WalksEnd {W} k = (s : Shape) (xs : List (Slot W)) (ds : List ℕ) → Decides s xs ds → EndsWithin k s xs ds (2 ^ (length ds + 1) - 1)
+
+abbrev pub Settles : {W : Type 0} → Kind W → Type 0
+Settles {W} k = (s : Shape) (xs : List (Slot W)) (ds : List ℕ) (n : Node) (b : Option Node) (t : Outcome) (p : Place)
+    → Visit k (ringQuestion k s xs ds) n b t p → condition (p .next) ≡ settled (condition (Some n)) t (hasKeep n)
+
+abbrev pub RunsObey : {W : Type 0} → Kind W → Type 0
+RunsObey {W} k = (s : Shape) (cs : List Lent) (answers : List (Answer W)) (last : Ledger W) → Run k s (opened s) cs answers last → Law k s cs answers last
+
+abbrev pub RunsAreTold : {W : Type 0} → Kind W → Type 0
+RunsAreTold {W} k = (s : Shape) (cs : List Lent)
+    → Run k s (opened s) cs (run k s (opened s) cs .0) (run k s (opened s) cs .1)
+    × ((answers : List (Answer W)) (last : Ledger W) → Run k s (opened s) cs answers last → (answers ≡ run k s (opened s) cs .0) × (last ≡ run k s (opened s) cs .1))
