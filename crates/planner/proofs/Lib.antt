@@ -1,1 +1,4 @@
 -- The lemmas that the functions' proofs share.
+pub mod GrantLaws
+pub mod WalkLaws
+pub mod QuestionLaws
