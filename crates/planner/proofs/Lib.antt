@@ -2,3 +2,5 @@
 pub mod GrantLaws
 pub mod WalkLaws
 pub mod QuestionLaws
+pub mod RingLaws
+pub mod ComputedLaws

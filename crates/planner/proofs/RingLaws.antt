@@ -1,0 +1,386 @@
+-- The tests of rings answer the propositions, and the rows to decide are those of the grants on a ring.
+use mathlib.Core.Path.{_≡_, refl, sym, ap₂, _∙_, subst}
+use mathlib.Core.Bool.{Bool, true, false, cond, not, _&&_, _||_}
+use mathlib.Core.List.{List, [], _∷_, _++_, map}
+use mathlib.Core.Logic.{_⊎_, inl, inr}
+use Prim.Native.Nat.{ℕ, zero, suc, _+_, _/_, _%_, _≤_, _<_}
+use native.Mathlib.Nat.{not-suc-le-zero, div-add-mod'}
+use native.Mathlib.Omega.{arith}
+use lib.Dec.{T, ltb, eqb}
+use lib.ListN.{getD}
+use Rattle.std.proofs.shelf.Bits.{mul-add-lt, div-mul-add, mod-mul-add}
+use Rattle.std.proofs.shelf.Tests.{ltb-true, eqb-true, eq-eqb, ne-eqb, cases-eq}
+use Rattle.mesh.specs.declared.right.Right.{Right}
+use Rattle.mesh.specs.declared.right.Right.the-variants.{Empty}
+use Rattle.mesh.specs.declared.shape.Shape.{Shape}
+use Rattle.mesh.specs.Rights.{canRead, canWrite}
+use Rattle.mesh.specs.Table.{rowOf, rowsOf, InTable}
+use Rattle.flow.specs.Flow.{Rights, placed, Source, Path, step, further, In, Different, Chain, Ring, Adjacent, OnRing}
+use Rattle.planner.specs.Grants.{Slot, rightIn, rightsIn}
+use Rattle.planner.specs.Search.{Rising, Decides}
+use Rattle.planner.specs.RingTests.{anyBelow, isSource, flowsTo, hasRing, stepOnRing, onRing, passing, toDecide}
+
+-- ---- tests that hold
+
+both : (x y : Bool) → T x → T y → T (x && y)
+both true y p q = q
+both false y p q = absurd p
+
+parts : (x y : Bool) → T (x && y) → T x × T y
+parts true y p = (tt, p)
+parts false y p = absurd p
+
+by-first : (x y : Bool) → T x → T (x || y)
+by-first true y p = tt
+by-first false y p = absurd p
+
+by-second : (x y : Bool) → T y → T (x || y)
+by-second true y p = tt
+by-second false y p = p
+
+either : (x y : Bool) → T (x || y) → T x ⊎ T y
+either true y p = inl tt
+either false y p = inr p
+
+equal-test : (a b : ℕ) → a ≡ b → T (eqb a b)
+equal-test a b e = subst T (sym (eq-eqb a b e)) tt
+
+test-equal : (a b : ℕ) → T (eqb a b) → a ≡ b
+test-equal a b t = eqb-true a b (holds (eqb a b) t)
+  where
+    holds : (x : Bool) → T x → x ≡ true
+    holds true p = refl
+    holds false p = absurd p
+
+apart-test : (a b : ℕ) → (a ≡ b → ⊥) → T (not (eqb a b))
+apart-test a b ne = subst (λ x. T (not x)) (sym (ne-eqb a b ne)) tt
+
+test-apart : (a b : ℕ) → T (not (eqb a b)) → a ≡ b → ⊥
+test-apart a b t e = subst (λ x. T (not x)) (eq-eqb a b e) t
+
+any-found : (n : ℕ) (f : ℕ → Bool) → T (anyBelow n f) → (k : ℕ) × (k < n) × T (f k)
+any-found zero f t = absurd t
+any-found (suc n) f t = go (any-found n f) (either (f n) (anyBelow n f) t)
+  where
+    go : (T (anyBelow n f) → (k : ℕ) × (k < n) × T (f k)) → T (f n) ⊎ T (anyBelow n f) → (k : ℕ) × (k < suc n) × T (f k)
+    go on (inl h) = (n, omega arith, h)
+    go on (inr h) = let r = on h in (r .0, omega arith, r .2)
+
+any-below : (n : ℕ) (f : ℕ → Bool) (k : ℕ) → k < n → T (f k) → T (anyBelow n f)
+any-below zero f k l t = absurd (not-suc-le-zero l)
+any-below (suc n) f k l t = elim (cases-eq k n) [
+  | inl e ↦ by-first (f n) (anyBelow n f) (subst (λ i. T (f i)) e t)
+  | inr ne ↦ by-second (f n) (anyBelow n f) (any-below n f k (omega arith) t)
+]
+
+-- ---- rights stand only in the table
+
+pub placed-within : (test : Right → Bool) → test Empty ≡ false → (s : Shape) (rs : List Right) (d p : ℕ) → T (test (placed s rs d p)) → (d < s .devices) × (p < s .points)
+placed-within test none s rs d p = go (ltb d (s .devices)) refl (ltb p (s .points)) refl
+  where
+    go : (b : Bool) → ltb d (s .devices) ≡ b → (c : Bool) → ltb p (s .points) ≡ c → T (test (cond (b && c) (getD rs (rowOf s d p) Empty) Empty))
+        → (d < s .devices) × (p < s .points)
+    go true t true u h = (ltb-true d (s .devices) t, ltb-true p (s .points) u)
+    go true t false u h = absurd (subst T none h)
+    go false t c u h = absurd (subst T none h)
+
+-- all sources are devices of the table, by points of the table
+abbrev Inside : Shape → Rights → Type 0
+Inside s g = (a b : ℕ) (h : Source g a b) → (a < s .devices) × (b < s .devices) × (h .point < s .points)
+
+placed-inside : (s : Shape) (rs : List Right) → Inside s (placed s rs)
+placed-inside s rs a b h =
+    let w = placed-within canWrite refl s rs a (h .point) (h .written) in
+    let r = placed-within canRead refl s rs b (h .point) (h .read) in
+    (w .0, r .0, w .1)
+
+-- ---- paths
+
+joined : {R : ℕ → ℕ → Type 0} {a b c : ℕ} → Path R a b → Path R b c → Path R a c
+joined p (step r) = further p r
+joined p (further q r) = further (joined p q) r
+
+chain-path : (g : Rights) (a : ℕ) (xs : List ℕ) (b : ℕ) → Chain g a xs b → Path (Source g) a b
+chain-path g a [] b c = step c
+chain-path g a (x ∷ xs) b c = joined (step (c .0)) (chain-path g x xs b (c .1))
+
+module _ (s : Shape) (g : Rights) where
+  is-source : (a b : ℕ) → T (isSource s g a b) → Source g a b
+  is-source a b t =
+      let h = parts (not (eqb a b)) (anyBelow (s .points) (λ p. canWrite (g a p) && canRead (g b p))) t in
+      let at = any-found (s .points) (λ p. canWrite (g a p) && canRead (g b p)) (h .1) in
+      let r = parts (canWrite (g a (at .0))) (canRead (g b (at .0))) (at .2) in
+      record { apart = test-apart a b (h .0); point = at .0; written = r .0; read = r .1 }
+
+  flows-path : (n a b : ℕ) → T (flowsTo s g n a b) → Path (Source g) a b
+  flows-path zero a b t = step (is-source a b t)
+  flows-path (suc n) a b t = elim (either (flowsTo s g n a b) (flowsTo s g n a n && flowsTo s g n n b) t) [
+    | inl h ↦ flows-path n a b h
+    | inr h ↦ (let p = parts (flowsTo s g n a n) (flowsTo s g n n b) h in joined (flows-path n a n (p .0)) (flows-path n n b (p .1)))
+  ]
+
+  source-flows : (n a b : ℕ) → T (isSource s g a b) → T (flowsTo s g n a b)
+  source-flows zero a b t = t
+  source-flows (suc n) a b t = by-first (flowsTo s g n a b) (flowsTo s g n a n && flowsTo s g n n b) (source-flows n a b t)
+
+  flows-over : (n m a b : ℕ) → m < n → T (flowsTo s g n a m) → T (flowsTo s g n m b) → T (flowsTo s g n a b)
+  flows-over zero m a b l p q = absurd (not-suc-le-zero l)
+  flows-over (suc n) m a b l p q = go (λ k x y. flows-over n m x y k) (cases-eq m n)
+    where
+      -- over n, or not
+      ways : (x y : ℕ) → T (flowsTo s g (suc n) x y) → T (flowsTo s g n x y) ⊎ (T (flowsTo s g n x n) × T (flowsTo s g n n y))
+      ways x y t = elim (either (flowsTo s g n x y) (flowsTo s g n x n && flowsTo s g n n y) t) [ inl h ↦ inl h | inr h ↦ inr (parts (flowsTo s g n x n) (flowsTo s g n n y) h) ]
+
+      direct : T (flowsTo s g n a b) → T (flowsTo s g (suc n) a b)
+      direct h = by-first (flowsTo s g n a b) (flowsTo s g n a n && flowsTo s g n n b) h
+
+      over : T (flowsTo s g n a n) → T (flowsTo s g n n b) → T (flowsTo s g (suc n) a b)
+      over h k = by-second (flowsTo s g n a b) (flowsTo s g n a n && flowsTo s g n n b) (both (flowsTo s g n a n) (flowsTo s g n n b) h k)
+
+      beside : ((x y : ℕ) → T (flowsTo s g n x m) → T (flowsTo s g n m y) → T (flowsTo s g n x y))
+          → T (flowsTo s g n a m) ⊎ (T (flowsTo s g n a n) × T (flowsTo s g n n m)) → T (flowsTo s g n m b) ⊎ (T (flowsTo s g n m n) × T (flowsTo s g n n b))
+          → T (flowsTo s g (suc n) a b)
+      beside on (inl h) (inl k) = direct (on a b h k)
+      beside on (inl h) (inr k) = over (on a n h (k .0)) (k .1)
+      beside on (inr h) (inl k) = over (h .0) (on n b (h .1) k)
+      beside on (inr h) (inr k) = over (h .0) (k .1)
+
+      go : (m < n → (x y : ℕ) → T (flowsTo s g n x m) → T (flowsTo s g n m y) → T (flowsTo s g n x y)) → (m ≡ n) ⊎ (m ≡ n → ⊥) → T (flowsTo s g (suc n) a b)
+      go on (inl e) =
+          over
+          (elim (ways a n (subst (λ i. T (flowsTo s g (suc n) a i)) e p)) [ inl h ↦ h | inr h ↦ h .0 ])
+          (elim (ways n b (subst (λ i. T (flowsTo s g (suc n) i b)) e q)) [ inl h ↦ h | inr h ↦ h .1 ])
+      go on (inr ne) = beside (on (omega arith)) (ways a m p) (ways m b q)
+
+  module _ (inside : Inside s g) where
+    source-is : (a b : ℕ) → Source g a b → T (isSource s g a b)
+    source-is a b h =
+        both (not (eqb a b)) (anyBelow (s .points) (λ p. canWrite (g a p) && canRead (g b p))) (apart-test a b (h .apart))
+        (any-below (s .points) _ (h .point) (inside a b h .2) (both (canWrite (g a (h .point))) (canRead (g b (h .point))) (h .written) (h .read)))
+
+    path-flows : {a b : ℕ} → Path (Source g) a b → T (flowsTo s g (s .devices) a b)
+    path-flows {a} {b} (step r) = source-flows (s .devices) a b (source-is a b r)
+    path-flows {a} {b} (further {b = m} p r) = flows-over (s .devices) m a b (inside m b r .0) (path-flows p) (source-flows (s .devices) m b (source-is m b r))
+
+    path-start : {a b : ℕ} → Path (Source g) a b → a < s .devices
+    path-start {a} {b} (step r) = inside a b r .0
+    path-start (further p r) = path-start p
+
+-- ---- from a path to a chain that comes to no device twice
+
+record Simple (g : Rights) (b a : ℕ) : Type 0 where
+  pub over : List ℕ
+  pub chain : Chain g b over a
+  pub different : Different (b ∷ over)
+  pub before : In a (b ∷ over) → ⊥
+
+-- the part of a chain that begins at one of its devices
+from-there : (g : Rights) (a c b : ℕ) (over : List ℕ) → Chain g b over a → Different (b ∷ over) → (In a (b ∷ over) → ⊥) → In c (b ∷ over) → Simple g c a
+from-there g a c b over h d n (inl e) = subst (λ x. Simple g x a) (sym e) (record { over = over; chain = h; different = d; before = n })
+from-there g a c b [] h d n (inr i) = absurd i
+from-there g a c b (x ∷ xs) h d n (inr i) = from-there g a c x xs (h .1) (d .1) (λ j. n (inr j)) i
+
+in-or-not : (c : ℕ) (xs : List ℕ) → In c xs ⊎ (In c xs → ⊥)
+in-or-not c [] = inr (λ i. i)
+in-or-not c (x ∷ xs) = go (cases-eq c x) (in-or-not c xs)
+  where
+    go : (c ≡ x) ⊎ (c ≡ x → ⊥) → In c xs ⊎ (In c xs → ⊥) → In c (x ∷ xs) ⊎ (In c (x ∷ xs) → ⊥)
+    go (inl e) r = inl (inl e)
+    go (inr ne) (inl i) = inl (inr i)
+    go (inr ne) (inr out) = inr (λ i. elim i [ inl e ↦ ne e | inr j ↦ out j ])
+
+one-before : (g : Rights) (a c b : ℕ) → Source g c b → (b ≡ a) ⊎ Simple g b a → (c ≡ a) ⊎ Simple g c a
+one-before g a c b h (inl e) = inr (record {
+  over = [];
+  chain = subst (Source g c) e h;
+  different = ((λ i. i), tt);
+  before = λ i. elim i [ inl q ↦ h .apart (sym q ∙ sym e) | inr j ↦ j ];
+})
+one-before g a c b h (inr k) = go (cases-eq c a) (in-or-not c (b ∷ k .over))
+  where
+    go : (c ≡ a) ⊎ (c ≡ a → ⊥) → In c (b ∷ k .over) ⊎ (In c (b ∷ k .over) → ⊥) → (c ≡ a) ⊎ Simple g c a
+    go (inl e) r = inl e
+    go (inr ne) (inl i) = inr (from-there g a c b (k .over) (k .chain) (k .different) (k .before) i)
+    go (inr ne) (inr out) = inr (record {
+      over = b ∷ k .over;
+      chain = (h, k .chain);
+      different = (out, k .different);
+      before = λ i. elim i [ inl e ↦ ne (sym e) | inr j ↦ k .before j ];
+    })
+
+simplified : (g : Rights) (a : ℕ) {c b : ℕ} → Path (Source g) c b → (b ≡ a) ⊎ Simple g b a → (c ≡ a) ⊎ Simple g c a
+simplified g a {c} {b} (step h) k = one-before g a c b h k
+simplified g a {c} {b} (further {b = m} p h) k = simplified g a p (one-before g a m b h k)
+
+-- ---- rings
+
+pub ring-through : (g : Rights) (a b : ℕ) → Source g a b → Path (Source g) b a → (r : Ring g) × Adjacent a b (r .first ∷ (r .others ++ (r .first ∷ [])))
+ring-through g a b h p = go (simplified g a p (inl refl))
+  where
+    go : (b ≡ a) ⊎ Simple g b a → (r : Ring g) × Adjacent a b (r .first ∷ (r .others ++ (r .first ∷ [])))
+    go (inl e) = absurd (h .apart (sym e))
+    go (inr k) = (record { first = a; others = b ∷ k .over; several = omega arith; different = (k .before, k .different); round = (h, k .chain) }, inl (refl, refl))
+
+source-in-chain : (g : Rights) (a b x : ℕ) (xs : List ℕ) (y : ℕ) → Chain g x xs y → Adjacent a b (x ∷ (xs ++ (y ∷ []))) → Source g a b
+source-in-chain g a b x [] y c (inl e) = rw (e .0, e .1) c
+source-in-chain g a b x [] y c (inr i) = absurd i
+source-in-chain g a b x (z ∷ zs) y c (inl e) = rw (e .0, e .1) (c .0)
+source-in-chain g a b x (z ∷ zs) y c (inr i) = source-in-chain g a b z zs y (c .1) i
+
+pub adjacent-source : (g : Rights) (r : Ring g) (a b : ℕ) → Adjacent a b (r .first ∷ (r .others ++ (r .first ∷ []))) → Source g a b
+adjacent-source g r a b i = source-in-chain g a b (r .first) (r .others) (r .first) (r .round) i
+
+back-around : (g : Rights) (a b x : ℕ) (xs : List ℕ) (y : ℕ) → Chain g x xs y → Path (Source g) y x → Adjacent a b (x ∷ (xs ++ (y ∷ []))) → Path (Source g) b a
+back-around g a b x [] y c p (inl e) = rw (e .0, e .1) p
+back-around g a b x [] y c p (inr i) = absurd i
+back-around g a b x (z ∷ zs) y c p (inl e) = rw (e .0, e .1) (joined (chain-path g z zs y (c .1)) p)
+back-around g a b x (z ∷ zs) y c p (inr i) = back-around g a b z zs y (c .1) (further p (c .0)) i
+
+ring-path : (g : Rights) (r : Ring g) → Path (Source g) (r .first) (r .first)
+ring-path g r = chain-path g (r .first) (r .others) (r .first) (r .round)
+
+pub adjacent-back : (g : Rights) (r : Ring g) (a b : ℕ) → Adjacent a b (r .first ∷ (r .others ++ (r .first ∷ []))) → Path (Source g) b a
+adjacent-back g r a b i = back-around g a b (r .first) (r .others) (r .first) (r .round) (ring-path g r) i
+
+path-ring : (g : Rights) (a b : ℕ) → a ≡ b → Path (Source g) a b → Ring g
+path-ring g a b e (step h) = absurd (h .apart e)
+path-ring g a b e (further {b = m} p h) = ring-through g m b h (subst (λ x. Path (Source g) x m) e p) .0
+
+pub has-ring : (s : Shape) (rs : List Right) → (T (hasRing s (placed s rs)) → Ring (placed s rs)) × (Ring (placed s rs) → T (hasRing s (placed s rs)))
+has-ring s rs = (found, stands)
+  where
+    found : T (hasRing s (placed s rs)) → Ring (placed s rs)
+    found t =
+        let at = any-found (s .devices) (λ a. flowsTo s (placed s rs) (s .devices) a a) t in
+        path-ring (placed s rs) (at .0) (at .0) refl (flows-path s (placed s rs) (s .devices) (at .0) (at .0) (at .2))
+
+    stands : Ring (placed s rs) → T (hasRing s (placed s rs))
+    stands r =
+        let inside = placed-inside s rs in
+        let p = ring-path (placed s rs) r in
+        any-below (s .devices) (λ a. flowsTo s (placed s rs) (s .devices) a a) (r .first) (path-start s (placed s rs) inside p) (path-flows s (placed s rs) inside p)
+
+-- ---- grants on a ring
+
+module _ (s : Shape) (g : Rights) (d p : ℕ) where
+  on-ring : T (onRing s g d p) → OnRing g d p
+  on-ring t =
+      let at = any-found (s .devices) (λ a. anyBelow (s .devices) (λ b. stepOnRing s g d p a b)) t in
+      let to = any-found (s .devices) (λ b. stepOnRing s g d p (at .0) b) (at .2) in
+      here (at .0) (to .0) (to .2)
+    where
+      here : (a b : ℕ) → T (stepOnRing s g d p a b) → OnRing g d p
+      here a b h =
+          let ends = parts (eqb d a || eqb d b) _ h in
+          let ne = parts (not (eqb a b)) _ (ends .1) in
+          let w = parts (canWrite (g a p)) _ (ne .1) in
+          let r = parts (canRead (g b p)) (flowsTo s g (s .devices) b a) (w .1) in
+          let source : Source g a b = record { apart = test-apart a b (ne .0); point = p; written = w .0; read = r .0 } in
+          let ring = ring-through g a b source (flows-path s g (s .devices) b a (r .1)) in
+          record {
+            ring = ring .0;
+            from = a;
+            to = b;
+            adjacent = ring .1;
+            written = w .0;
+            read = r .0;
+            one-of = elim (either (eqb d a) (eqb d b) (ends .0)) [ inl e ↦ inl (test-equal d a e) | inr e ↦ inr (test-equal d b e) ];
+          }
+
+  ring-on : Inside s g → OnRing g d p → T (onRing s g d p)
+  ring-on inside o =
+      let a = o .from in
+      let b = o .to in
+      let source = adjacent-source g (o .ring) a b (o .adjacent) in
+      let w = inside a b source in
+      any-below (s .devices) (λ x. anyBelow (s .devices) (λ y. stepOnRing s g d p x y)) a (w .0)
+      (any-below (s .devices) (λ y. stepOnRing s g d p a y) b (w .1)
+      (both (eqb d a || eqb d b) _ (ends (o .one-of))
+      (both (not (eqb a b)) _ (apart-test a b (source .apart))
+      (both (canWrite (g a p)) _ (o .written)
+      (both (canRead (g b p)) (flowsTo s g (s .devices) b a) (o .read) (path-flows s g inside (adjacent-back g (o .ring) a b (o .adjacent))))))))
+    where
+      ends : (d ≡ o .from) ⊎ (d ≡ o .to) → T (eqb d (o .from) || eqb d (o .to))
+      ends (inl e) = by-first (eqb d (o .from)) (eqb d (o .to)) (equal-test d (o .from) e)
+      ends (inr e) = by-second (eqb d (o .from)) (eqb d (o .to)) (equal-test d (o .to) e)
+
+-- a grant on a ring stands in the table
+on-ring-within : (s : Shape) (rs : List Right) (d p : ℕ) → OnRing (placed s rs) d p → InTable s d p
+on-ring-within s rs d p o =
+    let w = placed-within canWrite refl s rs (o .from) p (o .written) in
+    let r = placed-within canRead refl s rs (o .to) p (o .read) in
+    (elim (o .one-of) [ inl e ↦ omega arith | inr e ↦ omega arith ], w .1)
+
+-- ---- the rows to decide
+
+passing-found : (f : ℕ → Bool) (n j i : ℕ) → In i (passing f n j) → (j ≤ i) × (i < j + n) × T (f i)
+passing-found f zero j i h = absurd h
+passing-found f (suc n) j i h = go (passing-found f n (suc j) i) (f j) refl h
+  where
+    go : (In i (passing f n (suc j)) → (suc j ≤ i) × (i < suc j + n) × T (f i)) → (b : Bool) → f j ≡ b → In i (cond b (j ∷ passing f n (suc j)) (passing f n (suc j)))
+        → (j ≤ i) × (i < j + suc n) × T (f i)
+    go on true e (inl q) = (omega arith, omega arith, subst (λ k. T (f k)) (sym q) (subst T (sym e) tt))
+    go on true e (inr k) = let r = on k in (omega arith, omega arith, r .2)
+    go on false e k = let r = on k in (omega arith, omega arith, r .2)
+
+passes : (f : ℕ → Bool) (n j i : ℕ) → j ≤ i → i < j + n → T (f i) → In i (passing f n j)
+passes f zero j i low high t = absurd (omega arith)
+passes f (suc n) j i low high t = go (passes f n (suc j) i) (f j) refl (cases-eq i j)
+  where
+    go : (suc j ≤ i → i < suc j + n → T (f i) → In i (passing f n (suc j))) → (b : Bool) → f j ≡ b → (i ≡ j) ⊎ (i ≡ j → ⊥)
+        → In i (cond b (j ∷ passing f n (suc j)) (passing f n (suc j)))
+    go on true e (inl q) = inl q
+    go on true e (inr ne) = inr (on (omega arith) (omega arith) t)
+    go on false e (inl q) = absurd (subst T e (subst (λ k. T (f k)) q t))
+    go on false e (inr ne) = on (omega arith) (omega arith) t
+
+passing-rising : (f : ℕ → Bool) (n j : ℕ) → Rising (passing f n j)
+passing-rising f zero j = tt
+passing-rising f (suc n) j = go (passing-rising f n (suc j)) (f j)
+  where
+    go : Rising (passing f n (suc j)) → (b : Bool) → Rising (cond b (j ∷ passing f n (suc j)) (passing f n (suc j)))
+    go on true = ((λ y i. passing-found f n (suc j) y i .0), on)
+    go on false = on
+
+pub to-decide : {W : Type 0} (s : Shape) (xs : List (Slot W)) → Decides s xs (toDecide s xs)
+to-decide s xs = record { rising = passing-rising test (rowsOf s) 0; all = all; none-else = none-else }
+  where
+    test : ℕ → Bool
+    test i = onRing s (rightsIn s xs) (i / s .points) (i % s .points)
+
+    all : (d p : ℕ) → OnRing (rightsIn s xs) d p → In (rowOf s d p) (toDecide s xs)
+    all d p o =
+        let w = on-ring-within s (map rightIn xs) d p o in
+        let low = mul-add-lt d (s .points) p (s .devices) (w .0) (w .1) in
+        passes test (rowsOf s) 0 (rowOf s d p) (omega arith) (omega arith)
+        (rw (div-mul-add d (s .points) p (w .1), mod-mul-add d (s .points) p (w .1)) (ring-on s (rightsIn s xs) d p (placed-inside s (map rightIn xs)) o))
+
+    none-else : (i : ℕ) → In i (toDecide s xs) → (d : ℕ) × (p : ℕ) × (i ≡ rowOf s d p) × OnRing (rightsIn s xs) d p
+    none-else i h =
+        let f = passing-found test (rowsOf s) 0 i h in
+        (i / s .points, i % s .points, sym (div-add-mod' i (s .points)), on-ring s (rightsIn s xs) (i / s .points) (i % s .points) (f .2))
+
+-- two rising lists of the same numbers are the same list
+rising-same : (xs ys : List ℕ) → Rising xs → Rising ys → ((i : ℕ) → In i xs → In i ys) → ((i : ℕ) → In i ys → In i xs) → xs ≡ ys
+rising-same [] [] rx ry to back = refl
+rising-same [] (y ∷ ys) rx ry to back = absurd (back y (inl refl))
+rising-same (x ∷ xs) [] rx ry to back = absurd (to x (inl refl))
+rising-same (x ∷ xs) (y ∷ ys) rx ry to back = ap₂ _∷_ same (rising-same xs ys (rx .1) (ry .1) on from)
+  where
+    same : x ≡ y
+    same = elim (to x (inl refl)) [
+      | inl e ↦ e
+      | inr i ↦ elim (back y (inl refl)) [ inl e ↦ sym e | inr j ↦ (let u = ry .0 x i in let v = rx .0 y j in absurd (omega arith)) ]
+    ]
+
+    on : (i : ℕ) → In i xs → In i ys
+    on i h = elim (to i (inr h)) [ inl e ↦ (let u = rx .0 i h in let q = same in absurd (omega arith)) | inr j ↦ j ]
+
+    from : (i : ℕ) → In i ys → In i xs
+    from i h = elim (back i (inr h)) [ inl e ↦ (let u = ry .0 i h in let q = same in absurd (omega arith)) | inr j ↦ j ]
+
+decides-also : {W : Type 0} (s : Shape) (xs : List (Slot W)) (ds es : List ℕ) → Decides s xs ds → Decides s xs es → (i : ℕ) → In i ds → In i es
+decides-also s xs ds es a b i h = let r = a .none-else i h in subst (λ k. In k es) (sym (r .2)) (b .all (r .0) (r .1) (r .3))
+
+pub decides-unique : {W : Type 0} (s : Shape) (xs : List (Slot W)) (ds es : List ℕ) → Decides s xs ds → Decides s xs es → ds ≡ es
+decides-unique s xs ds es a b = rising-same ds es (a .rising) (b .rising) (decides-also s xs ds es a b) (decides-also s xs es ds b a)
