@@ -1,0 +1,264 @@
+-- The walk and the ledger that compute agree with the relations.
+use mathlib.Core.Path.{_≡_, refl, sym, ap, subst, _∙_}
+use mathlib.Core.Bool.{Bool, true, false, cond, not}
+use mathlib.Core.List.{List, [], _∷_, map}
+use Prim.Native.Nat.{ℕ, zero, suc, _+_, _≤_, _<_}
+use native.Mathlib.Omega.{arith}
+use native.Mathlib.Nat.{not-suc-le-zero, zero-add, suc-add}
+use lib.Dec.{T}
+use Rattle.std.specs.declared.option.Option.{Option}
+use Rattle.std.specs.declared.option.Option.the-variants.{Some, None}
+use Rattle.mesh.specs.declared.refusal.Refusal.{Refusal}
+use Rattle.mesh.specs.declared.refusal.Refusal.the-variants.{ShortMemory, NotEnded}
+use Rattle.mesh.specs.declared.right.Right.{Right}
+use Rattle.mesh.specs.declared.shape.Shape.{Shape}
+use Rattle.mesh.specs.Kind.{Kind}
+use Rattle.flow.specs.Flow.{Ring, placed}
+use Rattle.planner.specs.declared.walk.Outcome.{Outcome}
+use Rattle.planner.specs.declared.walk.Outcome.the-variants as by
+use Rattle.planner.specs.declared.calls.Call.{Call}
+use Rattle.planner.specs.declared.calls.Call.the-variants as call
+use Rattle.planner.specs.declared.calls.Lent.{Lent}
+use Rattle.planner.specs.declared.calls.Answer.{Answer}
+use Rattle.planner.specs.declared.calls.Answer.the-variants as says
+use Rattle.planner.specs.Grants.{Slot, rightIn, without, only}
+use Rattle.planner.specs.Walk.{Node, Question, NoLess, Place, at, begun, Visit, no-less, ring-kept, best-plan, open-node, Walked, stay, visit, Advanced}
+use Rattle.planner.specs.Search.{Decides, kept, revoked}
+use Rattle.planner.specs.Ledger.{Search, Ledger, book, searching, first, nodeLeft, tooFew, refusal, admitted, opened, asks, started, moved, plan, Done, write, erase, read, start, advance, take, abandon, Told, misuse, refused, done, Run, none, then}
+use Rattle.planner.specs.RingTests.{hasRing, toDecide}
+use Rattle.planner.specs.Computed.{Tests, ringTests, isNoLess, outcomeOf, leads, walks, makes, tell, run}
+
+-- ---- the walk
+
+pub walked-then : {W : Type 0} {k : Kind W} {q : Question W} {v w : ℕ} {p p′ p″ : Place} → Walked k q v p p′ → Walked k q w p′ p″ → Walked k q (v + w) p p″
+walked-then stay rest = rw zero-add rest
+walked-then (visit one more) rest = rw suc-add (visit one (walked-then more rest))
+
+clash : _≡_ {A = ℕ} 0 1 → ⊥
+clash z = omega arith
+
+-- a test answers a proposition
+abbrev Answers : Bool → Type 0 → Type 0
+Answers b P = (T b → P) × (P → T b)
+
+holds : {P : Type 0} (b : Bool) → Answers b P → b ≡ true → P
+holds true d e = d .0 tt
+holds false d e = absurd (clash (cc))
+
+fails : {P : Type 0} (b : Bool) → Answers b P → b ≡ false → P → ⊥
+fails true d e h = clash (cc)
+fails false d e h = d .1 h
+
+is-true : {P : Type 0} (b : Bool) → Answers b P → P → b ≡ true
+is-true true d h = refl
+is-true false d h = absurd (d .1 h)
+
+is-false : {P : Type 0} (b : Bool) → Answers b P → (P → ⊥) → b ≡ false
+is-false true d h = absurd (h (d .0 tt))
+is-false false d h = refl
+
+no-less-answers : {W : Type 0} (k : Kind W) (q : Question W) (b : Option Node) (n : Node) → Answers (isNoLess k q b n) (NoLess k q b n)
+no-less-answers k q None n = ((λ h. h), λ h. h)
+no-less-answers k q (Some b) n = ((λ h. h), λ h. h)
+
+module _ {W : Type 0} (k : Kind W) (q : Question W) (t : Tests)
+    (hopeless : (n : Node) → (T (t .hopeless n) → q .Hopeless n) × (q .Hopeless n → T (t .hopeless n)))
+    (solved : (n : Node) → (T (t .solved n) → q .Solved n) × (q .Solved n → T (t .solved n))) where
+  pub visit-computed : (n : Node) (b : Option Node) → Visit k q n b (outcomeOf k q t n b) (leads (outcomeOf k q t n b) n b)
+  visit-computed n b = go (isNoLess k q b n) refl (t .hopeless n) refl (t .solved n) refl
+    where
+      less : isNoLess k q b n ≡ false → NoLess k q b n → ⊥
+      less = fails _ (no-less-answers k q b n)
+
+      go : (x : Bool) → isNoLess k q b n ≡ x → (y : Bool) → t .hopeless n ≡ y → (z : Bool) → t .solved n ≡ z
+          → let o = cond x by.NoLess (cond y by.RingKept (cond z by.BestPlan by.Opened)) in Visit k q n b o (leads o n b)
+      go true e y f z g = no-less (holds _ (no-less-answers k q b n) e)
+      go false e true f z g = ring-kept (less e) (holds _ (hopeless n) f)
+      go false e false f true g = best-plan (less e) (fails _ (hopeless n) f) (holds _ (solved n) g)
+      go false e false f false g = open-node (less e) (fails _ (hopeless n) f) (fails _ (solved n) g)
+
+  pub visit-told : {n : Node} {b : Option Node} {o : Outcome} {p : Place} → Visit k q n b o p → (o ≡ outcomeOf k q t n b) × (p ≡ leads (outcomeOf k q t n b) n b)
+  visit-told {n} {b} v = let e = outcome v in (e, place v ∙ ap (λ x. leads x n b) e)
+    where
+      place : {o : Outcome} {p : Place} → Visit k q n b o p → p ≡ leads o n b
+      place (no-less h) = refl
+      place (ring-kept h r) = refl
+      place (best-plan h r s) = refl
+      place (open-node h r s) = refl
+
+      outcome : {o : Outcome} {p : Place} → Visit k q n b o p → o ≡ outcomeOf k q t n b
+      outcome (no-less h) = rw (is-true _ (no-less-answers k q b n) h)
+      outcome (ring-kept h r) = rw (is-false _ (no-less-answers k q b n) h, is-true _ (hopeless n) r)
+      outcome (best-plan h r s) = rw (is-false _ (no-less-answers k q b n) h, is-false _ (hopeless n) r, is-true _ (solved n) s)
+      outcome (open-node h r s) = rw (is-false _ (no-less-answers k q b n) h, is-false _ (hopeless n) r, is-false _ (solved n) s)
+
+  pub advance-computed : (budget before : ℕ) (next best : Option Node)
+      → Advanced k q budget before (at next best) (before + walks k q t budget next best .0) (walks k q t budget next best .1)
+  advance-computed zero before next best = record { made = 0; walk = stay; counted = refl; within = omega arith; all = λ h. absurd (not-suc-le-zero h) }
+  advance-computed (suc budget) before None best = record { made = 0; walk = stay; counted = refl; within = omega arith; all = λ h. refl }
+  advance-computed (suc budget) before (Some n) best =
+      let p = leads (outcomeOf k q t n best) n best in
+      let rest = advance-computed budget before (p .next) (p .best) in
+      record {
+        made = suc (rest .made);
+        walk = visit (visit-computed n best) (rest .walk);
+        counted = omega arith;
+        within = omega arith;
+        all = λ h. rest .all (omega arith);
+      }
+
+  walked-told : {v : ℕ} {p p′ : Place} (budget : ℕ) → Walked k q v p p′ → v ≤ budget → (v < budget → p′ .next ≡ None)
+      → (v ≡ walks k q t budget (p .next) (p .best) .0) × (p′ ≡ walks k q t budget (p .next) (p .best) .1)
+  walked-told zero stay within all = (refl, refl)
+  walked-told {p = p} (suc budget) stay within all = go (p .next) (all (omega arith))
+    where
+      go : (next : Option Node) → next ≡ None → (0 ≡ walks k q t (suc budget) next (p .best) .0) × (at next (p .best) ≡ walks k q t (suc budget) next (p .best) .1)
+      go None e = (refl, refl)
+      go (Some n) e = absurd (clash (cc))
+  walked-told zero (visit one more) within all = absurd (not-suc-le-zero within)
+  walked-told (suc budget) (visit one more) within all =
+      let rest = walked-told budget more (omega arith) (λ h. all (omega arith)) in
+      let w = λ (p : Place). walks k q t budget (p .next) (p .best) in
+      (ap suc (rest .0 ∙ ap (λ p. w p .0) (visit-told one .1)), rest .1 ∙ ap (λ p. w p .1) (visit-told one .1))
+
+  pub advance-told : {budget before visits : ℕ} {p p′ : Place} → Advanced k q budget before p visits p′
+      → (visits ≡ before + walks k q t budget (p .next) (p .best) .0) × (p′ ≡ walks k q t budget (p .next) (p .best) .1)
+  advance-told {budget} {before} a =
+      let told = walked-told budget (a .walk) (a .within) (a .all) in
+      (a .counted ∙ ap (λ n. before + n) (told .0), told .1)
+
+-- ---- what holds of the ledgers of a run
+
+pub record Searching {W : Type 0} (k : Kind W) (s : Shape) (xs : List (Slot W)) (q : Search W) : Type 0 where
+  pub copied : xs ≡ q .slots
+  pub decides : Decides s (q .slots) (q .rows)
+  pub walked : Walked k (asks k s q) (q .visits) begun (q .place)
+
+abbrev pub Sound : {W : Type 0} → Kind W → Shape → Ledger W → Type 0
+Sound k s (book xs) = Unit {0}
+Sound k s (searching xs q) = Searching k s xs q
+
+done-sound : {W : Type 0} {k : Kind W} {s : Shape} {l l′ : Ledger W} {c : Call} {a : Answer W} → Done k s l c a l′ → Sound k s l → Sound k s l′
+done-sound write h = tt
+done-sound erase h = tt
+done-sound read h = tt
+done-sound (start d) h = record { copied = refl; decides = d; walked = stay }
+done-sound {k = k} {s = s} (advance {q = q} {p = p} m) h = record {
+  copied = h .copied;
+  decides = h .decides;
+  walked = subst (λ v. Walked k (asks k s q) v begun p) (sym (m .counted)) (walked-then (h .walked) (m .walk));
+}
+done-sound (take e) h = tt
+done-sound abandon h = tt
+
+pub told-sound : {W : Type 0} {k : Kind W} {s : Shape} {l l′ : Ledger W} {c : Lent} {a : Answer W} → Told k s l c a l′ → Sound k s l → Sound k s l′
+told-sound (misuse e) h = h
+told-sound (refused e r) h = h
+told-sound (done e r d) h = done-sound d h
+
+pub run-sound : {W : Type 0} {k : Kind W} {s : Shape} {l l′ : Ledger W} {cs : List Lent} {answers : List (Answer W)} → Run k s l cs answers l′ → Sound k s l → Sound k s l′
+run-sound none h = h
+run-sound (then t r) h = run-sound r (told-sound t h)
+
+-- ---- the ledger
+
+-- what tell makes of an admission and a refusal
+abbrev settle : {W : Type 0} → Kind W → Shape → Ledger W → Call → Bool → Option Refusal → Answer W × Ledger W
+settle k s l c x r = cond x (elim r [ Some why ↦ (says.Refused why, l) | None ↦ makes k s l c ]) (says.Misuse, l)
+
+-- what an advance to v visits and the place p makes
+abbrev moves : {W : Type 0} → List (Slot W) → Search W → ℕ → Place → Answer W × Ledger W
+moves xs q v p = (says.Advanced (record { visits = v; ended = not (nodeLeft p) }), searching xs (moved q v p))
+
+-- what a take makes of the best plan
+abbrev taken : {W : Type 0} → Kind W → List (Slot W) → Search W → Option Node → Answer W × Ledger W
+taken k xs q b = elim b [ Some n ↦ (plan k q n, book (without (revoked (q .rows) n) xs)) | None ↦ (says.Misuse, searching xs q) ]
+
+not-answers : {P : Type 0} (b : Bool) → Answers b P → Answers (not b) (P → ⊥)
+not-answers true d = ((λ h. absurd h), λ n. n (d .0 tt))
+not-answers false d = ((λ h p. d .1 p), λ n. tt)
+
+-- a take that is not refused finds the walk ended
+none-left : (next best : Option Node) (few : Bool) → first ((few, ShortMemory) ∷ (nodeLeft (at next best), NotEnded) ∷ []) ≡ None → next ≡ None
+none-left None best few e = refl
+none-left (Some n) best true e = cc
+none-left (Some n) best false e = cc
+
+module _ {W : Type 0} (k : Kind W) (s : Shape)
+    (ring : (s : Shape) (rs : List Right) → (T (hasRing s (placed s rs)) → Ring (placed s rs)) × (Ring (placed s rs) → T (hasRing s (placed s rs))))
+    (to-decide : (xs : List (Slot W)) → Decides s xs (toDecide s xs))
+    (unique : (xs : List (Slot W)) (ds es : List ℕ) → Decides s xs ds → Decides s xs es → ds ≡ es)
+    (planned : (xs : List (Slot W)) (q : Search W) → Searching k s xs q → q .place .next ≡ None → (n : Node) × (q .place .best ≡ Some n)) where
+  hopeless-answers : (q : Search W) (n : Node) → Answers (ringTests s (q .slots) (q .rows) .hopeless n) (asks k s q .Hopeless n)
+  hopeless-answers q n = ring s (map rightIn (only (kept (q .rows) n) (q .slots)))
+
+  solved-answers : (q : Search W) (n : Node) → Answers (ringTests s (q .slots) (q .rows) .solved n) (asks k s q .Solved n)
+  solved-answers q n = not-answers _ (ring s (map rightIn (without (revoked (q .rows) n) (q .slots))))
+
+  done-computed : (l : Ledger W) (c : Call) (n : ℕ) → Sound k s l → admitted l c ≡ true → refusal k s l c n ≡ None → Done k s l c (makes k s l c .0) (makes k s l c .1)
+  done-computed (book xs) (call.Write d p r a) n h e f = write
+  done-computed (book xs) (call.Erase d p) n h e f = erase
+  done-computed (book xs) (call.Read d p) n h e f = read
+  done-computed (book xs) call.Start n h e f = start (to-decide xs)
+  done-computed (searching xs q) (call.Advance b) n h e f =
+      advance (advance-computed k (asks k s q) (ringTests s (q .slots) (q .rows)) (hopeless-answers q) (solved-answers q) b (q .visits) (q .place .next) (q .place .best))
+  done-computed (searching xs q) call.Take n h e f =
+      let best = planned xs q h (none-left (q .place .next) (q .place .best) (tooFew s n) f) .1 in
+      subst (λ b. Done k s (searching xs q) call.Take (taken k xs q b .0) (taken k xs q b .1)) (sym best) (take best)
+  done-computed (searching xs q) call.Abandon n h e f = abandon
+  -- calls that are not admitted
+  done-computed (book xs) (call.Advance b) n h e f = absurd (clash (cc))
+  done-computed (book xs) call.Take n h e f = absurd (clash (cc))
+  done-computed (book xs) call.Abandon n h e f = absurd (clash (cc))
+  done-computed (searching xs q) (call.Write d p r a) n h e f = absurd (clash (cc))
+  done-computed (searching xs q) (call.Erase d p) n h e f = absurd (clash (cc))
+  done-computed (searching xs q) (call.Read d p) n h e f = absurd (clash (cc))
+  done-computed (searching xs q) call.Start n h e f = absurd (clash (cc))
+
+  pub tell-computed : (l : Ledger W) (c : Lent) → Sound k s l → Told k s l c (tell k s l c .0) (tell k s l c .1)
+  tell-computed l c h = go (admitted l (c .call)) refl (refusal k s l (c .call) (c .rows)) refl
+    where
+      go : (x : Bool) → admitted l (c .call) ≡ x → (r : Option Refusal) → refusal k s l (c .call) (c .rows) ≡ r
+          → Told k s l c (settle k s l (c .call) x r .0) (settle k s l (c .call) x r .1)
+      go false e r f = misuse e
+      go true e (Some why) f = refused e f
+      go true e None f = done e f (done-computed l (c .call) (c .rows) h e f)
+
+  makes-told : {l l′ : Ledger W} {c : Call} {a : Answer W} → Sound k s l → Done k s l c a l′ → (a, l′) ≡ makes k s l c
+  makes-told h write = refl
+  makes-told h erase = refl
+  makes-told h read = refl
+  makes-told h (start {xs = xs} {ds = ds} d) = ap (λ (ds : List ℕ). (says.Started, searching xs (started xs ds))) (unique xs ds (toDecide s xs) d (to-decide xs))
+  makes-told h (advance {xs = xs} {q = q} {p = p} m) =
+      let told = advance-told k (asks k s q) (ringTests s (q .slots) (q .rows)) (hopeless-answers q) (solved-answers q) m in
+      ap (λ v. moves xs q v p) (told .0) ∙ ap (moves xs q _) (told .1)
+  makes-told h (take {xs = xs} {q = q} e) = ap (taken k xs q) (sym e)
+  makes-told h abandon = refl
+
+  tell-is : (l : Ledger W) (c : Lent) (x : Bool) (r : Option Refusal) → admitted l (c .call) ≡ x → refusal k s l (c .call) (c .rows) ≡ r → settle k s l (c .call) x r ≡ tell k s l c
+  tell-is l c x r e f = ap (λ y. settle k s l (c .call) y r) (sym e) ∙ ap (settle k s l (c .call) (admitted l (c .call))) (sym f)
+
+  pub told-computed : {l l′ : Ledger W} {c : Lent} {a : Answer W} → Sound k s l → Told k s l c a l′ → (a ≡ tell k s l c .0) × (l′ ≡ tell k s l c .1)
+  told-computed {l} {c = c} h t = let e = go t in (ap (λ x. x .0) e, ap (λ x. x .1) e)
+    where
+      go : {l′ : Ledger W} {a : Answer W} → Told k s l c a l′ → (a, l′) ≡ tell k s l c
+      go (misuse e) = tell-is l c false _ e refl
+      go (refused e f) = tell-is l c true _ e f
+      go (done e f d) = makes-told h d ∙ tell-is l c true None e f
+
+  run-computed : (l : Ledger W) (cs : List Lent) → Sound k s l → Run k s l cs (run k s l cs .0) (run k s l cs .1)
+  run-computed l [] h = none
+  run-computed l (c ∷ cs) h = let t = tell-computed l c h in then t (run-computed (tell k s l c .1) cs (told-sound t h))
+
+  run-told : {l last : Ledger W} {cs : List Lent} {answers : List (Answer W)} → Sound k s l → Run k s l cs answers last
+      → (answers ≡ run k s l cs .0) × (last ≡ run k s l cs .1)
+  run-told h none = (refl, refl)
+  run-told h (then {cs = cs} t r) =
+      let now = told-computed h t in
+      let rest = run-told (told-sound t h) r in
+      let same = ap (λ m. run k s m cs) (now .1) in
+      (cc, cc)
+
+  pub runs-are-told : (cs : List Lent) → Run k s (opened s) cs (run k s (opened s) cs .0) (run k s (opened s) cs .1)
+      × ((answers : List (Answer W)) (last : Ledger W) → Run k s (opened s) cs answers last → (answers ≡ run k s (opened s) cs .0) × (last ≡ run k s (opened s) cs .1))
+  runs-are-told cs = (run-computed (opened s) cs tt, λ answers last r. run-told tt r)
