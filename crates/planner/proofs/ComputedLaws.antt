@@ -26,13 +26,10 @@ use Rattle.planner.specs.Walk.{Node, Question, NoLess, Place, at, begun, Visit
 use Rattle.planner.specs.Search.{Decides, kept, revoked}
 use Rattle.planner.specs.Ledger.{Search, Ledger, book, searching, first, nodeLeft, tooFew, refusal, admitted, opened, asks, started, moved, plan, Done, write, erase, read, start, advance, take, abandon, Told, misuse, refused, done, Run, none, then}
 use Rattle.planner.specs.RingTests.{hasRing, toDecide}
+use Rattle.planner.proofs.LedgerLaws.{Searching, Sound, told-sound, opened-sound, walk-ended}
 use Rattle.planner.specs.Computed.{Tests, ringTests, isNoLess, outcomeOf, leads, walks, makes, tell, run}
 
 -- ---- the walk
-
-pub walked-then : {W : Type 0} {k : Kind W} {q : Question W} {v w : ℕ} {p p′ p″ : Place} → Walked k q v p p′ → Walked k q w p′ p″ → Walked k q (v + w) p p″
-walked-then stay rest = rw zero-add rest
-walked-then (visit one more) rest = rw suc-add (visit one (walked-then more rest))
 
 clash : _≡_ {A = ℕ} 0 1 → ⊥
 clash z = omega arith
@@ -127,39 +124,6 @@ module _ {W : Type 0} (k : Kind W) (q : Question W) (t : Tests)
       let told = walked-told budget (a .walk) (a .within) (a .all) in
       (a .counted ∙ ap (λ n. before + n) (told .0), told .1)
 
--- ---- what holds of the ledgers of a run
-
-pub record Searching {W : Type 0} (k : Kind W) (s : Shape) (xs : List (Slot W)) (q : Search W) : Type 0 where
-  pub copied : xs ≡ q .slots
-  pub decides : Decides s (q .slots) (q .rows)
-  pub walked : Walked k (asks k s q) (q .visits) begun (q .place)
-
-abbrev pub Sound : {W : Type 0} → Kind W → Shape → Ledger W → Type 0
-Sound k s (book xs) = Unit {0}
-Sound k s (searching xs q) = Searching k s xs q
-
-done-sound : {W : Type 0} {k : Kind W} {s : Shape} {l l′ : Ledger W} {c : Call} {a : Answer W} → Done k s l c a l′ → Sound k s l → Sound k s l′
-done-sound write h = tt
-done-sound erase h = tt
-done-sound read h = tt
-done-sound (start d) h = record { copied = refl; decides = d; walked = stay }
-done-sound {k = k} {s = s} (advance {q = q} {p = p} m) h = record {
-  copied = h .copied;
-  decides = h .decides;
-  walked = subst (λ v. Walked k (asks k s q) v begun p) (sym (m .counted)) (walked-then (h .walked) (m .walk));
-}
-done-sound (take e) h = tt
-done-sound abandon h = tt
-
-pub told-sound : {W : Type 0} {k : Kind W} {s : Shape} {l l′ : Ledger W} {c : Lent} {a : Answer W} → Told k s l c a l′ → Sound k s l → Sound k s l′
-told-sound (misuse e) h = h
-told-sound (refused e r) h = h
-told-sound (done e r d) h = done-sound d h
-
-pub run-sound : {W : Type 0} {k : Kind W} {s : Shape} {l l′ : Ledger W} {cs : List Lent} {answers : List (Answer W)} → Run k s l cs answers l′ → Sound k s l → Sound k s l′
-run-sound none h = h
-run-sound (then t r) h = run-sound r (told-sound t h)
-
 -- ---- the ledger
 
 -- what tell makes of an admission and a refusal
@@ -177,12 +141,6 @@ taken k xs q b = elim b [ Some n ↦ (plan k q n, book (without (revoked (q .row
 not-answers : {P : Type 0} (b : Bool) → Answers b P → Answers (not b) (P → ⊥)
 not-answers true d = ((λ h. absurd h), λ n. n (d .0 tt))
 not-answers false d = ((λ h p. d .1 p), λ n. tt)
-
--- a take that is not refused finds the walk ended
-none-left : (next best : Option Node) (few : Bool) → first ((few, ShortMemory) ∷ (nodeLeft (at next best), NotEnded) ∷ []) ≡ None → next ≡ None
-none-left None best few e = refl
-none-left (Some n) best true e = cc
-none-left (Some n) best false e = cc
 
 module _ {W : Type 0} (k : Kind W) (s : Shape)
     (ring : (s : Shape) (rs : List Right) → (T (hasRing s (placed s rs)) → Ring (placed s rs)) × (Ring (placed s rs) → T (hasRing s (placed s rs))))
@@ -203,7 +161,7 @@ module _ {W : Type 0} (k : Kind W) (s : Shape)
   done-computed (searching xs q) (call.Advance b) n h e f =
       advance (advance-computed k (asks k s q) (ringTests s (q .slots) (q .rows)) (hopeless-answers q) (solved-answers q) b (q .visits) (q .place .next) (q .place .best))
   done-computed (searching xs q) call.Take n h e f =
-      let best = planned xs q h (none-left (q .place .next) (q .place .best) (tooFew s n) f) .1 in
+      let best = planned xs q h (walk-ended (q .place .next) (q .place .best) (tooFew s n) f) .1 in
       subst (λ b. Done k s (searching xs q) call.Take (taken k xs q b .0) (taken k xs q b .1)) (sym best) (take best)
   done-computed (searching xs q) call.Abandon n h e f = abandon
   -- calls that are not admitted
@@ -261,4 +219,4 @@ module _ {W : Type 0} (k : Kind W) (s : Shape)
 
   pub runs-are-told : (cs : List Lent) → Run k s (opened s) cs (run k s (opened s) cs .0) (run k s (opened s) cs .1)
       × ((answers : List (Answer W)) (last : Ledger W) → Run k s (opened s) cs answers last → (answers ≡ run k s (opened s) cs .0) × (last ≡ run k s (opened s) cs .1))
-  runs-are-told cs = (run-computed (opened s) cs tt, λ answers last r. run-told tt r)
+  runs-are-told cs = (run-computed (opened s) cs (opened-sound k s), λ answers last r. run-told (opened-sound k s) r)

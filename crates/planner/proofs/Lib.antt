@@ -2,5 +2,6 @@
 pub mod GrantLaws
 pub mod WalkLaws
 pub mod QuestionLaws
+pub mod LedgerLaws
 pub mod RingLaws
 pub mod ComputedLaws

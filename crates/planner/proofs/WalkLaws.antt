@@ -16,15 +16,18 @@ use Rattle.planner.specs.declared.walk.Condition.{Condition}
 use Rattle.planner.specs.declared.walk.Condition.the-variants.{Descending, Returning, Ended}
 use Rattle.planner.specs.declared.walk.Outcome.{Outcome}
 use Rattle.planner.specs.declared.walk.Outcome.the-variants as by
-use Rattle.planner.specs.Walk.{Node, keep, revoke, Question, NoLess, after, Place, at, begun, Visit, no-less, ring-kept, best-plan, open-node, Walked, stay, visit, condition, hasKeep, closed, settled}
+use Rattle.planner.specs.Walk.{Decision, Node, keep, revoke, Question, NoLess, after, Place, at, begun, Visit, no-less, ring-kept, best-plan, open-node, Walked, stay, visit, condition, hasKeep, closed, settled}
 
 -- ---- what is left of the walk
+
+abbrev pub revoking : Decision → Bool
+revoking keep = false
+revoking revoke = true
 
 -- an answer, by the positions of the grants that it revokes, makes the node's choices
 abbrev pub Extends : (ℕ → Bool) → Node → Type 0
 Extends r [] = Unit {0}
-Extends r (keep ∷ n) = (r (length n) ≡ false) × Extends r n
-Extends r (revoke ∷ n) = (r (length n) ≡ true) × Extends r n
+Extends r (c ∷ n) = (r (length n) ≡ revoking c) × Extends r n
 
 -- it makes the choices of a node that is visited after all below n
 abbrev Later : (ℕ → Bool) → Node → Type 0

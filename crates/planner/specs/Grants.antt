@@ -1,5 +1,6 @@
 -- Grants in slots, one slot for each row of a table, and sets of grants.
 --     Slot W            a grant's right and weight, or none
+--     rightIn, weightIn  what a slot has: the empty right and zero where no grant stands
 --     rightsIn s xs     the rights of the grants that stand in the slots
 --     RowSet            a set of grants: any choice of rows
 --     without c xs      the slots with the rows of c emptied
@@ -30,6 +31,10 @@ Slot W = Option (Grant W)
 abbrev pub rightIn : {W : Type 0} → Slot W → Right
 rightIn None = Empty
 rightIn (Some x) = x .right
+
+abbrev pub weightIn : {W : Type 0} → Kind W → Slot W → W
+weightIn k None = k .zero
+weightIn k (Some x) = x .weight
 
 abbrev pub rightsIn : {W : Type 0} → Shape → List (Slot W) → Rights
 rightsIn s xs = placed s (map rightIn xs)

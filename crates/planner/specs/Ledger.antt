@@ -30,7 +30,7 @@ use Rattle.planner.specs.declared.calls.Written.{Written}
 use Rattle.planner.specs.declared.calls.Written.the-variants.{Fresh, Replaced}
 use Rattle.planner.specs.declared.calls.Answer.{Answer}
 use Rattle.planner.specs.declared.calls.Answer.the-variants as says
-use Rattle.planner.specs.Grants.{Grant, Slot, without, weightOf, numberOf}
+use Rattle.planner.specs.Grants.{Slot, rightIn, weightIn, without, weightOf, numberOf}
 use Rattle.planner.specs.Walk.{Node, Question, Place, begun, Advanced}
 use Rattle.planner.specs.Search.{Decides, revoked, ringQuestion}
 
@@ -135,9 +135,9 @@ abbrev pub freshness : {W : Type 0} → Slot W → Written
 freshness None = Fresh
 freshness (Some x) = Replaced
 
+-- e and zero for an empty slot
 abbrev pub reading : {W : Type 0} → Kind W → Slot W → Answer W
-reading k None = says.Read Empty (k .zero)
-reading k (Some x) = says.Read (x .right) (x .weight)
+reading k x = says.Read (rightIn x) (weightIn k x)
 
 -- a search that starts on the slots xs with the rows ds to decide
 abbrev pub started : {W : Type 0} → List (Slot W) → List ℕ → Search W

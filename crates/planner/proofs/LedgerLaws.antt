@@ -1,0 +1,266 @@
+-- What holds of every run of the ledger, and that it obeys the law.
+use mathlib.Core.Path.{_≡_, refl, sym, ap, subst, _∙_}
+use mathlib.Core.Bool.{Bool, true, false, cond, not, true≢false}
+use mathlib.Core.List.{List, [], _∷_, _++_}
+use Prim.Native.Nat.{ℕ, zero, suc, _+_, _≤_, _<_}
+use native.Mathlib.Omega.{arith}
+use native.Mathlib.Nat.{zero-add, suc-add}
+use lib.Dec.{T, leb}
+use lib.ListN.{length, getD, set, replicate, length-set, length-replicate}
+use Rattle.std.proofs.shelf.Bits.{mul-add-lt}
+use Rattle.std.proofs.shelf.Tests.{or-parts, leb-false}
+use Rattle.std.specs.declared.option.Option.{Option}
+use Rattle.std.specs.declared.option.Option.the-variants.{Some, None}
+use Rattle.mesh.specs.declared.refusal.Refusal.{Refusal}
+use Rattle.mesh.specs.declared.refusal.Refusal.the-variants.{ShortMemory, OutsideTable, WrongRight, WrongAmount, NothingToErase, NotEnded}
+use Rattle.mesh.specs.declared.shape.Shape.{Shape}
+use Rattle.mesh.specs.Kind.{Kind, Lawful}
+use Rattle.mesh.specs.Table.{rowsOf, rowOf}
+use Rattle.flow.specs.Flow.{Ring}
+use Rattle.planner.specs.declared.calls.Call.{Call}
+use Rattle.planner.specs.declared.calls.Lent.{Lent}
+use Rattle.planner.specs.declared.calls.Plan.{Plan}
+use Rattle.planner.specs.declared.calls.Answer.{Answer}
+use Rattle.planner.specs.declared.calls.Answer.the-variants as says
+use Rattle.planner.specs.Grants.{Slot, RowSet, rightsIn, without, grantsIn, numberOf, standing}
+use Rattle.planner.specs.Walk.{Node, Question, Place, at, begun, Walked, stay, visit}
+use Rattle.planner.specs.Search.{Decides, revoked}
+use Rattle.planner.specs.Ledger.{Search, Ledger, book, searching, slotsOf, first, slotAt, isVacant, isEmpty, nodeLeft, tooFew, outside, refusal, freshness, opened, asks, Done, write, erase, read, start, advance, take, abandon, Told, misuse, refused, done, Run, none, then}
+use Rattle.planner.specs.Law.{freshNumber, came, went, total, Exact, Cheapest, Taking, Law}
+use Rattle.planner.proofs.GrantLaws.{length-without, standing-without, standing-set}
+use Rattle.planner.proofs.QuestionLaws.{Planned, planned, revoked-stand}
+
+-- ---- the walk in hand
+
+pub walked-then : {W : Type 0} {k : Kind W} {q : Question W} {v w : ℕ} {p p′ p″ : Place} → Walked k q v p p′ → Walked k q w p′ p″ → Walked k q (v + w) p p″
+walked-then stay rest = rw zero-add rest
+walked-then (visit one more) rest = rw suc-add (visit one (walked-then more rest))
+
+-- ---- what holds of the ledgers of a run
+
+pub record Searching {W : Type 0} (k : Kind W) (s : Shape) (xs : List (Slot W)) (q : Search W) : Type 0 where
+  pub sized : length xs ≡ rowsOf s
+  pub copied : xs ≡ q .slots
+  pub decides : Decides s (q .slots) (q .rows)
+  pub walked : Walked k (asks k s q) (q .visits) begun (q .place)
+
+abbrev pub Sound : {W : Type 0} → Kind W → Shape → Ledger W → Type 0
+Sound k s (book xs) = length xs ≡ rowsOf s
+Sound k s (searching xs q) = Searching k s xs q
+
+done-sound : {W : Type 0} {k : Kind W} {s : Shape} {l l′ : Ledger W} {c : Call} {a : Answer W} → Done k s l c a l′ → Sound k s l → Sound k s l′
+done-sound {s = s} (write {xs = xs} {d = d} {p = p}) h = length-set xs (rowOf s d p) _ ∙ h
+done-sound {s = s} (erase {xs = xs} {d = d} {p = p}) h = length-set xs (rowOf s d p) _ ∙ h
+done-sound read h = h
+done-sound (start d) h = record { sized = h; copied = refl; decides = d; walked = stay }
+done-sound {k = k} {s = s} (advance {q = q} {p = p} m) h = record {
+  sized = h .sized;
+  copied = h .copied;
+  decides = h .decides;
+  walked = subst (λ v. Walked k (asks k s q) v begun p) (sym (m .counted)) (walked-then (h .walked) (m .walk));
+}
+done-sound (take {xs = xs} {q = q} {n = n} e) h = length-without (revoked (q .rows) n) xs ∙ h .sized
+done-sound abandon h = h .sized
+
+pub told-sound : {W : Type 0} {k : Kind W} {s : Shape} {l l′ : Ledger W} {c : Lent} {a : Answer W} → Told k s l c a l′ → Sound k s l → Sound k s l′
+told-sound (misuse e) h = h
+told-sound (refused e r) h = h
+told-sound (done e r d) h = done-sound d h
+
+pub run-sound : {W : Type 0} {k : Kind W} {s : Shape} {l l′ : Ledger W} {cs : List Lent} {answers : List (Answer W)} → Run k s l cs answers l′ → Sound k s l → Sound k s l′
+run-sound none h = h
+run-sound (then t r) h = run-sound r (told-sound t h)
+
+pub opened-sound : {W : Type 0} (k : Kind W) (s : Shape) → Sound {W = W} k s (opened s)
+opened-sound k s = length-replicate (rowsOf s) None
+
+-- ---- counted
+
+first-none : (b : Bool) (why : Refusal) (rest : List (Bool × Refusal)) → first ((b, why) ∷ rest) ≡ None → (b ≡ false) × (first rest ≡ None)
+first-none true why rest e = (cc, cc)
+first-none false why rest e = (refl, e)
+
+-- a row that is not outside is one of the table's
+row-within : (s : Shape) (d p : ℕ) → outside s d p ≡ false → rowOf s d p < rowsOf s
+row-within s d p e =
+    let io = or-parts (leb (s .devices) d) (leb (s .points) p) e in
+    let low = mul-add-lt d (s .points) p (s .devices) (leb-false (s .devices) d (io .0)) (leb-false (s .points) p (io .1)) in
+    omega arith
+
+-- a call that is not refused names a row of the table
+row-named : (s : Shape) (n d p : ℕ) (rest : List (Bool × Refusal)) → first ((tooFew s n, ShortMemory) ∷ (outside s d p, OutsideTable) ∷ rest) ≡ None
+    → (rowOf s d p < rowsOf s) × (first rest ≡ None)
+row-named s n d p rest e =
+    let enough = first-none (tooFew s n) ShortMemory ((outside s d p, OutsideTable) ∷ rest) e in
+    let within = first-none (outside s d p) OutsideTable rest (enough .1) in
+    (row-within s d p (within .0), within .1)
+
+fresh-or-stood : {W : Type 0} (x : Slot W) → freshNumber (freshness x) + length (grantsIn x) ≡ 1
+fresh-or-stood None = refl
+fresh-or-stood (Some g) = refl
+
+one-stood : {W : Type 0} (x : Slot W) → isVacant x ≡ false → length (grantsIn x) ≡ 1
+one-stood None e = absurd (true≢false e)
+one-stood (Some g) e = refl
+
+done-step : {W : Type 0} {k : Kind W} {s : Shape} {l l′ : Ledger W} {c : Call} {a : Answer W} (n : ℕ) → Done k s l c a l′ → refusal k s l c n ≡ None → Sound k s l
+    → standing (slotsOf l′) + went a ≡ standing (slotsOf l) + came a
+done-step {k = k} {s = s} n (write {xs = xs} {d = d} {p = p} {a = a} {r = x}) r h =
+    let row = row-named s n d p ((isEmpty x, WrongRight) ∷ (not (k .admits a), WrongAmount) ∷ []) r in
+    let now = standing-set xs (rowOf s d p) (Some (record { right = x; weight = k .of a })) (omega arith) in
+    let old = fresh-or-stood (slotAt s xs d p) in
+    omega arith
+done-step {s = s} n (erase {xs = xs} {d = d} {p = p}) r h =
+    let row = row-named s n d p ((isVacant (slotAt s xs d p), NothingToErase) ∷ []) r in
+    let now = standing-set xs (rowOf s d p) None (omega arith) in
+    let old = one-stood (slotAt s xs d p) (first-none (isVacant (slotAt s xs d p)) NothingToErase [] (row .1) .0) in
+    omega arith
+done-step n read r h = refl
+done-step n (start d) r h = refl
+done-step n (advance m) r h = refl
+done-step n (take {xs = xs} {q = q} {n = m} e) r h =
+    let all = standing-without (revoked (q .rows) m) xs in
+    let same = ap (numberOf (revoked (q .rows) m)) (h .copied) in
+    omega arith
+done-step n abandon r h = refl
+
+one-step : {W : Type 0} {k : Kind W} {s : Shape} {l l′ : Ledger W} {c : Lent} {a : Answer W} → Told k s l c a l′ → Sound k s l
+    → standing (slotsOf l′) + went a ≡ standing (slotsOf l) + came a
+one-step (misuse e) h = refl
+one-step (refused e r) h = refl
+one-step {c = c} (done e r d) h = done-step (c .rows) d r h
+
+steps : {W : Type 0} {k : Kind W} {s : Shape} {l l′ : Ledger W} {cs : List Lent} {answers : List (Answer W)} → Run k s l cs answers l′ → Sound k s l
+    → standing (slotsOf l′) + total went answers ≡ standing (slotsOf l) + total came answers
+steps none h = refl
+steps (then t r) h = let now = one-step t h in let rest = steps r (told-sound t h) in omega arith
+
+none-stand : (W : Type 0) (n : ℕ) → standing (replicate {A = Slot W} n None) ≡ 0
+none-stand W zero = refl
+none-stand W (suc n) = none-stand W n
+
+-- ---- a run, cut at one of its answers
+
+record Cut {W : Type 0} (k : Kind W) (s : Shape) (l : Ledger W) (cs : List Lent) (earlier : List (Answer W)) (a : Answer W) (later : List (Answer W)) (last : Ledger W) : Type 0 where
+  pub before : List Lent
+  pub call : Lent
+  pub rest : List Lent
+  pub calls : cs ≡ before ++ (call ∷ rest)
+  pub from : Ledger W
+  pub to : Ledger W
+  pub until : Run k s l before earlier from
+  pub here : Told k s from call a to
+  pub on : Run k s to rest later last
+
+cut : {W : Type 0} {k : Kind W} {s : Shape} {l last : Ledger W} {cs : List Lent} {answers : List (Answer W)} → Run k s l cs answers last
+    → (earlier : List (Answer W)) (a : Answer W) (later : List (Answer W)) → answers ≡ earlier ++ (a ∷ later) → Cut k s l cs earlier a later last
+cut none [] a later e = let l = ap length e in absurd (omega arith)
+cut none (x ∷ earlier) a later e = let l = ap length e in absurd (omega arith)
+cut {k = k} {s = s} {l = l} {last = last} (then {m = m} {c = c} {a = b} {cs = cs} {answers = answers} t r) [] a later e =
+    let same : b ≡ a = cc in
+    let others : answers ≡ later = cc in
+    record {
+      before = [];
+      call = c;
+      rest = cs;
+      calls = refl;
+      from = l;
+      to = m;
+      until = none;
+      here = subst (λ x. Told k s l c x m) same t;
+      on = subst (λ as′. Run k s m cs as′ last) others r;
+    }
+cut {k = k} {s = s} {l = l} (then {m = m} {c = c} {a = b} {answers = answers} t r) (x ∷ earlier) a later e =
+    let same : b ≡ x = cc in
+    let others : answers ≡ earlier ++ (a ∷ later) = cc in
+    let on = cut r earlier a later others in
+    record {
+      before = c ∷ on .before;
+      call = on .call;
+      rest = on .rest;
+      calls = ap (λ cs. c ∷ cs) (on .calls);
+      from = on .from;
+      to = on .to;
+      until = then (subst (λ y. Told k s l c y m) same t) (on .until);
+      here = on .here;
+      on = on .on;
+    }
+
+-- ---- the law
+
+some-same : {A : Type 0} {a b : A} → Some a ≡ Some b → a ≡ b
+some-same e = cc
+
+-- a take that is not refused finds the walk ended
+pub walk-ended : (next best : Option Node) (few : Bool) → first ((few, ShortMemory) ∷ (nodeLeft (at next best), NotEnded) ∷ []) ≡ None → next ≡ None
+walk-ended None best few e = refl
+walk-ended (Some n) best true e = cc
+walk-ended (Some n) best false e = cc
+
+module _ {W : Type 0} (k : Kind W) (law : Lawful k) (s : Shape) where
+  -- a plan that is taken, from the ledger l to the ledger l′
+  record Took (l : Ledger W) (plan : Plan W) (l′ : Ledger W) : Type 0 where
+    pub owner : Search W
+    pub slots : List (Slot W)
+    pub left : List (Slot W)
+    pub grants : RowSet
+    pub from : l ≡ searching slots owner
+    pub to : l′ ≡ book left
+    pub ringless : Ring (rightsIn s left) → ⊥
+    pub exact : Exact k owner plan slots left grants
+    pub cheapest : Cheapest k s owner (plan .weight)
+
+  took : {l l′ : Ledger W} {c : Call} {plan : Plan W} (n : ℕ) → Done k s l c (says.Taken plan) l′ → refusal k s l c n ≡ None → Sound k s l → Took l plan l′
+  took n (take {xs = xs} {q = q} {n = node} best) r h =
+      let ended = walk-ended (q .place .next) (q .place .best) (tooFew s n) r in
+      let found = planned k law s (q .slots) (q .rows) (h .decides) (q .place) (h .walked) ended in
+      let p = subst (Planned k law s (q .slots) (q .rows) (h .decides)) (some-same (sym (found .1) ∙ best)) (found .2) in
+      record {
+        owner = q;
+        slots = xs;
+        left = without (revoked (q .rows) node) xs;
+        grants = revoked (q .rows) node;
+        from = refl;
+        to = refl;
+        ringless = subst (λ ys. Ring (rightsIn s (without (revoked (q .rows) node) ys)) → ⊥) (sym (h .copied)) (p .ringless);
+        exact = record {
+          stood = λ i. revoked-stand k law s (q .slots) (q .rows) (h .decides) node i (p .short);
+          weight = refl;
+          number = refl;
+          unchanged = h .copied;
+          emptied = refl;
+        };
+        cheapest = p .cheapest;
+      }
+
+  -- only a call that is made answers a plan
+  told-took : {l l′ : Ledger W} {c : Lent} {plan : Plan W} → Told k s l c (says.Taken plan) l′ → Sound k s l → Took l plan l′
+  told-took {c = c} (done e r d) h = took (c .rows) d r h
+
+  taking : (cs : List Lent) (earlier : List (Answer W)) (plan : Plan W) (later : List (Answer W)) (last : Ledger W)
+      → Cut k s (opened s) cs earlier (says.Taken plan) later last → Taking k s cs earlier plan later last
+  taking cs earlier plan later last x =
+      let t = told-took (x .here) (run-sound (x .until) (opened-sound k s)) in
+      record {
+        before = x .before;
+        call = x .call;
+        rest = x .rest;
+        calls = x .calls;
+        owner = t .owner;
+        slots = t .slots;
+        left = t .left;
+        until = subst (Run k s (opened s) (x .before) earlier) (t .from) (x .until);
+        here = subst (λ l. Told k s l (x .call) (says.Taken plan) (book (t .left))) (t .from) (subst (Told k s (x .from) (x .call) (says.Taken plan)) (t .to) (x .here));
+        on = subst (λ l. Run k s l (x .rest) later last) (t .to) (x .on);
+        grants = t .grants;
+        ringless = t .ringless;
+        exact = t .exact;
+        cheapest = t .cheapest;
+      }
+
+  pub runs-obey : (cs : List Lent) (answers : List (Answer W)) (last : Ledger W) → Run k s (opened s) cs answers last → Law k s cs answers last
+  runs-obey cs answers last r = record {
+    told = r;
+    fair = λ earlier plan later e. taking cs earlier plan later last (cut r earlier (says.Taken plan) later e);
+    counted = let all = steps r (opened-sound k s) in let none = none-stand W (rowsOf s) in omega arith;
+  }
