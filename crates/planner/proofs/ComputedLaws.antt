@@ -2,17 +2,19 @@
 use mathlib.Core.Path.{_≡_, refl, sym, ap, subst, _∙_}
 use mathlib.Core.Bool.{Bool, true, false, cond, not}
 use mathlib.Core.List.{List, [], _∷_, map}
-use Prim.Native.Nat.{ℕ, zero, suc, _+_, _≤_, _<_}
+use Prim.Native.Nat.{ℕ, zero, suc, _+_, _^_, _≤_, _<_}
 use native.Mathlib.Omega.{arith}
 use native.Mathlib.Nat.{not-suc-le-zero, zero-add, suc-add}
 use lib.Dec.{T}
+use lib.ListN.{length}
+use lib.Pow.{pow-pos}
 use Rattle.std.specs.declared.option.Option.{Option}
 use Rattle.std.specs.declared.option.Option.the-variants.{Some, None}
 use Rattle.mesh.specs.declared.refusal.Refusal.{Refusal}
 use Rattle.mesh.specs.declared.refusal.Refusal.the-variants.{ShortMemory, NotEnded}
 use Rattle.mesh.specs.declared.right.Right.{Right}
 use Rattle.mesh.specs.declared.shape.Shape.{Shape}
-use Rattle.mesh.specs.Kind.{Kind}
+use Rattle.mesh.specs.Kind.{Kind, Lawful}
 use Rattle.flow.specs.Flow.{Ring, placed}
 use Rattle.planner.specs.declared.walk.Outcome.{Outcome}
 use Rattle.planner.specs.declared.walk.Outcome.the-variants as by
@@ -23,9 +25,12 @@ use Rattle.planner.specs.declared.calls.Answer.{Answer}
 use Rattle.planner.specs.declared.calls.Answer.the-variants as says
 use Rattle.planner.specs.Grants.{Slot, rightIn, without, only}
 use Rattle.planner.specs.Walk.{Node, Question, NoLess, Place, at, begun, Visit, no-less, ring-kept, best-plan, open-node, Walked, stay, visit, Advanced}
-use Rattle.planner.specs.Search.{Decides, kept, revoked}
+use Rattle.planner.specs.Search.{kept, revoked, ringQuestion}
 use Rattle.planner.specs.Ledger.{Search, Ledger, book, searching, first, nodeLeft, tooFew, refusal, admitted, opened, asks, started, moved, plan, Done, write, erase, read, start, advance, take, abandon, Told, misuse, refused, done, Run, none, then}
 use Rattle.planner.specs.RingTests.{hasRing, toDecide}
+use Rattle.planner.specs.Theorems.{WalksEnd}
+use Rattle.planner.proofs.QuestionLaws.{few, planned}
+use Rattle.planner.proofs.RingLaws.{has-ring, to-decide, decides-unique}
 use Rattle.planner.proofs.LedgerLaws.{Searching, Sound, told-sound, opened-sound, walk-ended}
 use Rattle.planner.specs.Computed.{Tests, ringTests, isNoLess, outcomeOf, leads, walks, makes, tell, run}
 
@@ -142,26 +147,54 @@ not-answers : {P : Type 0} (b : Bool) → Answers b P → Answers (not b) (P →
 not-answers true d = ((λ h. absurd h), λ n. n (d .0 tt))
 not-answers false d = ((λ h p. d .1 p), λ n. tt)
 
-module _ {W : Type 0} (k : Kind W) (s : Shape)
-    (ring : (s : Shape) (rs : List Right) → (T (hasRing s (placed s rs)) → Ring (placed s rs)) × (Ring (placed s rs) → T (hasRing s (placed s rs))))
-    (to-decide : (xs : List (Slot W)) → Decides s xs (toDecide s xs))
-    (unique : (xs : List (Slot W)) (ds es : List ℕ) → Decides s xs ds → Decides s xs es → ds ≡ es)
-    (planned : (xs : List (Slot W)) (q : Search W) → Searching k s xs q → q .place .next ≡ None → (n : Node) × (q .place .best ≡ Some n)) where
-  hopeless-answers : (q : Search W) (n : Node) → Answers (ringTests s (q .slots) (q .rows) .hopeless n) (asks k s q .Hopeless n)
-  hopeless-answers q n = ring s (map rightIn (only (kept (q .rows) n) (q .slots)))
+-- ---- rings
 
-  solved-answers : (q : Search W) (n : Node) → Answers (ringTests s (q .slots) (q .rows) .solved n) (asks k s q .Solved n)
-  solved-answers q n = not-answers _ (ring s (map rightIn (without (revoked (q .rows) n) (q .slots))))
+module _ {W : Type 0} (k : Kind W) (s : Shape) (xs : List (Slot W)) (ds : List ℕ) where
+  hopeless-answers : (n : Node) → Answers (ringTests s xs ds .hopeless n) (ringQuestion k s xs ds .Hopeless n)
+  hopeless-answers n = has-ring s (map rightIn (only (kept ds n) xs))
 
+  solved-answers : (n : Node) → Answers (ringTests s xs ds .solved n) (ringQuestion k s xs ds .Solved n)
+  solved-answers n = not-answers _ (has-ring s (map rightIn (without (revoked ds n) xs)))
+
+  ring-visit : (n : Node) (b : Option Node) → (t : Outcome) × (p : Place) × Visit k (ringQuestion k s xs ds) n b t p
+  ring-visit n b = (_, _, visit-computed k (ringQuestion k s xs ds) (ringTests s xs ds) hopeless-answers solved-answers n b)
+
+  ring-advance : (budget before : ℕ) (next best : Option Node)
+      → Advanced k (ringQuestion k s xs ds) budget before (at next best) (before + walks k (ringQuestion k s xs ds) (ringTests s xs ds) budget next best .0)
+      (walks k (ringQuestion k s xs ds) (ringTests s xs ds) budget next best .1)
+  ring-advance = advance-computed k (ringQuestion k s xs ds) (ringTests s xs ds) hopeless-answers solved-answers
+
+module _ {W : Type 0} (k : Kind W) (law : Lawful k) where
+  -- within more visits than the walk can make, it ends
+  pub walks-end : WalksEnd k
+  walks-end s xs ds decides = record { few = λ v p w. few k law s xs ds decides w; onward = λ v n b w. ring-visit k s xs ds n b; ends = ends }
+    where
+      over : (v : ℕ) (p : Place) → Walked k (ringQuestion k s xs ds) v begun p → p .next ≡ None → (n : Node) × Walked k (ringQuestion k s xs ds) v begun (at None (Some n))
+      over v p w e =
+          let plan = planned k law s xs ds decides p w e in
+          (plan .0, subst (λ b. Walked k (ringQuestion k s xs ds) v begun (at None b)) (plan .1) (subst (λ n. Walked k (ringQuestion k s xs ds) v begun (at n (p .best))) e w))
+
+      ends : (v : ℕ) × (n : Node) × Walked k (ringQuestion k s xs ds) v begun (at None (Some n))
+      ends =
+          let a = ring-advance k s xs ds (2 ^ (length ds + 1)) 0 (Some []) None in
+          let most = few k law s xs ds decides (a .walk) in
+          let some = pow-pos (length ds + 1) in
+          let plan = over (a .made) _ (a .walk) (a .all (omega arith)) in
+          (a .made, plan .0, plan .1)
+
+-- ---- the ledger
+
+module _ {W : Type 0} (k : Kind W) (law : Lawful k) (s : Shape) where
   done-computed : (l : Ledger W) (c : Call) (n : ℕ) → Sound k s l → admitted l c ≡ true → refusal k s l c n ≡ None → Done k s l c (makes k s l c .0) (makes k s l c .1)
   done-computed (book xs) (call.Write d p r a) n h e f = write
   done-computed (book xs) (call.Erase d p) n h e f = erase
   done-computed (book xs) (call.Read d p) n h e f = read
-  done-computed (book xs) call.Start n h e f = start (to-decide xs)
+  done-computed (book xs) call.Start n h e f = start (to-decide s xs)
   done-computed (searching xs q) (call.Advance b) n h e f =
-      advance (advance-computed k (asks k s q) (ringTests s (q .slots) (q .rows)) (hopeless-answers q) (solved-answers q) b (q .visits) (q .place .next) (q .place .best))
+      advance (ring-advance k s (q .slots) (q .rows) b (q .visits) (q .place .next) (q .place .best))
   done-computed (searching xs q) call.Take n h e f =
-      let best = planned xs q h (walk-ended (q .place .next) (q .place .best) (tooFew s n) f) .1 in
+      let ended = walk-ended (q .place .next) (q .place .best) (tooFew s n) f in
+      let best = planned k law s (q .slots) (q .rows) (h .decides) (q .place) (h .walked) ended .1 in
       subst (λ b. Done k s (searching xs q) call.Take (taken k xs q b .0) (taken k xs q b .1)) (sym best) (take best)
   done-computed (searching xs q) call.Abandon n h e f = abandon
   -- calls that are not admitted
@@ -186,9 +219,9 @@ module _ {W : Type 0} (k : Kind W) (s : Shape)
   makes-told h write = refl
   makes-told h erase = refl
   makes-told h read = refl
-  makes-told h (start {xs = xs} {ds = ds} d) = ap (λ (ds : List ℕ). (says.Started, searching xs (started xs ds))) (unique xs ds (toDecide s xs) d (to-decide xs))
+  makes-told h (start {xs = xs} {ds = ds} d) = ap (λ (ds : List ℕ). (says.Started, searching xs (started xs ds))) (decides-unique s xs ds (toDecide s xs) d (to-decide s xs))
   makes-told h (advance {xs = xs} {q = q} {p = p} m) =
-      let told = advance-told k (asks k s q) (ringTests s (q .slots) (q .rows)) (hopeless-answers q) (solved-answers q) m in
+      let told = advance-told k (asks k s q) (ringTests s (q .slots) (q .rows)) (hopeless-answers k s (q .slots) (q .rows)) (solved-answers k s (q .slots) (q .rows)) m in
       ap (λ v. moves xs q v p) (told .0) ∙ ap (moves xs q _) (told .1)
   makes-told h (take {xs = xs} {q = q} e) = ap (taken k xs q) (sym e)
   makes-told h abandon = refl

@@ -1,9 +1,9 @@
 -- What is proved of every walk and every run, as statements that contracts name.
---     Settles          the search's condition follows from the one before it, the test that settled the visit, and the keeps left
---     EndsWithin q m   the walk over q makes at most m visits, goes on while a node is left, and ends with a best plan
---     MostVisits k n r the walk over n grants to decide ends within 2^(n+1) − 1 visits, which r is where it fits in 64 bits
---     RunsObey k       every run obeys the law
---     RunsAreTold k    every list of calls has one run, and it is the one that computes
+--     EndsWithin k s xs ds m   the walk over the grants ds of the slots xs makes at most m visits, goes on while a node is left, and ends with a best plan
+--     WalksEnd k               every walk ends within 2^(n+1) − 1 visits, where n grants are to decide
+--     Settles k                the search's condition follows from the one before it, the test that settled the visit, and whether a keep is left to turn
+--     RunsObey k               every run obeys the law
+--     RunsAreTold k            every list of calls has one run, and it is the one that computes
 use mathlib.Core.Path.{_≡_}
 use mathlib.Core.List.{List}
 use Prim.Native.Nat.{ℕ, _+_, _-_, _^_, _≤_}
