@@ -27,7 +27,7 @@ use Rattle.planner.specs.Grants.{Slot, rightIn, without, only}
 use Rattle.planner.specs.Walk.{Node, Question, NoLess, Place, at, begun, Visit, no-less, ring-kept, best-plan, open-node, Walked, stay, visit, Advanced}
 use Rattle.planner.specs.Search.{kept, revoked, ringQuestion}
 use Rattle.planner.specs.Ledger.{Search, Ledger, book, searching, first, nodeLeft, tooFew, refusal, admitted, opened, asks, started, moved, plan, Done, write, erase, read, start, advance, take, abandon, Told, misuse, refused, done, Run, none, then}
-use Rattle.planner.specs.RingTests.{hasRing, toDecide}
+use Rattle.planner.specs.FlowTests.{hasRing, toDecide}
 use Rattle.planner.specs.Theorems.{WalksEnd}
 use Rattle.planner.proofs.QuestionLaws.{few, planned}
 use Rattle.planner.proofs.RingLaws.{has-ring, to-decide, decides-unique}

@@ -3,5 +3,8 @@ pub mod GrantLaws
 pub mod WalkLaws
 pub mod QuestionLaws
 pub mod LedgerLaws
+pub mod TestLaws
 pub mod RingLaws
+pub mod OrderTestLaws
 pub mod ComputedLaws
+pub mod TriedLaws

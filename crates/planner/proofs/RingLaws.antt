@@ -18,60 +18,8 @@ use Rattle.mesh.specs.Table.{rowOf, rowsOf, InTable}
 use Rattle.flow.specs.Flow.{Rights, placed, Source, Path, step, further, In, Different, Chain, Ring, Adjacent, OnRing}
 use Rattle.planner.specs.Grants.{Slot, rightIn, rightsIn}
 use Rattle.planner.specs.Search.{Rising, Decides}
-use Rattle.planner.specs.RingTests.{anyBelow, isSource, flowsTo, hasRing, stepOnRing, onRing, passing, toDecide}
-
--- ---- tests that hold
-
-both : (x y : Bool) → T x → T y → T (x && y)
-both true y p q = q
-both false y p q = absurd p
-
-parts : (x y : Bool) → T (x && y) → T x × T y
-parts true y p = (tt, p)
-parts false y p = absurd p
-
-by-first : (x y : Bool) → T x → T (x || y)
-by-first true y p = tt
-by-first false y p = absurd p
-
-by-second : (x y : Bool) → T y → T (x || y)
-by-second true y p = tt
-by-second false y p = p
-
-either : (x y : Bool) → T (x || y) → T x ⊎ T y
-either true y p = inl tt
-either false y p = inr p
-
-equal-test : (a b : ℕ) → a ≡ b → T (eqb a b)
-equal-test a b e = subst T (sym (eq-eqb a b e)) tt
-
-test-equal : (a b : ℕ) → T (eqb a b) → a ≡ b
-test-equal a b t = eqb-true a b (holds (eqb a b) t)
-  where
-    holds : (x : Bool) → T x → x ≡ true
-    holds true p = refl
-    holds false p = absurd p
-
-apart-test : (a b : ℕ) → (a ≡ b → ⊥) → T (not (eqb a b))
-apart-test a b ne = subst (λ x. T (not x)) (sym (ne-eqb a b ne)) tt
-
-test-apart : (a b : ℕ) → T (not (eqb a b)) → a ≡ b → ⊥
-test-apart a b t e = subst (λ x. T (not x)) (eq-eqb a b e) t
-
-any-found : (n : ℕ) (f : ℕ → Bool) → T (anyBelow n f) → (k : ℕ) × (k < n) × T (f k)
-any-found zero f t = absurd t
-any-found (suc n) f t = go (any-found n f) (either (f n) (anyBelow n f) t)
-  where
-    go : (T (anyBelow n f) → (k : ℕ) × (k < n) × T (f k)) → T (f n) ⊎ T (anyBelow n f) → (k : ℕ) × (k < suc n) × T (f k)
-    go on (inl h) = (n, omega arith, h)
-    go on (inr h) = let r = on h in (r .0, omega arith, r .2)
-
-any-below : (n : ℕ) (f : ℕ → Bool) (k : ℕ) → k < n → T (f k) → T (anyBelow n f)
-any-below zero f k l t = absurd (not-suc-le-zero l)
-any-below (suc n) f k l t = elim (cases-eq k n) [
-  | inl e ↦ by-first (f n) (anyBelow n f) (subst (λ i. T (f i)) e t)
-  | inr ne ↦ by-second (f n) (anyBelow n f) (any-below n f k (omega arith) t)
-]
+use Rattle.planner.proofs.TestLaws.{both, parts, by-first, by-second, either, equal-test, test-equal, apart-test, test-apart, any-found, any-below}
+use Rattle.planner.specs.FlowTests.{anyBelow, isSource, flowsTo, hasRing, stepOnRing, onRing, passing, toDecide}
 
 -- ---- rights stand only in the table
 
@@ -85,10 +33,10 @@ placed-within test none s rs d p = go (ltb d (s .devices)) refl (ltb p (s .point
     go false t c u h = absurd (subst T none h)
 
 -- all sources are devices of the table, by points of the table
-abbrev Inside : Shape → Rights → Type 0
+abbrev pub Inside : Shape → Rights → Type 0
 Inside s g = (a b : ℕ) (h : Source g a b) → (a < s .devices) × (b < s .devices) × (h .point < s .points)
 
-placed-inside : (s : Shape) (rs : List Right) → Inside s (placed s rs)
+pub placed-inside : (s : Shape) (rs : List Right) → Inside s (placed s rs)
 placed-inside s rs a b h =
     let w = placed-within canWrite refl s rs a (h .point) (h .written) in
     let r = placed-within canRead refl s rs b (h .point) (h .read) in
@@ -105,7 +53,7 @@ chain-path g a [] b c = step c
 chain-path g a (x ∷ xs) b c = joined (step (c .0)) (chain-path g x xs b (c .1))
 
 module _ (s : Shape) (g : Rights) where
-  is-source : (a b : ℕ) → T (isSource s g a b) → Source g a b
+  pub is-source : (a b : ℕ) → T (isSource s g a b) → Source g a b
   is-source a b t =
       let h = parts (not (eqb a b)) (anyBelow (s .points) (λ p. canWrite (g a p) && canRead (g b p))) t in
       let at = any-found (s .points) (λ p. canWrite (g a p) && canRead (g b p)) (h .1) in
@@ -153,7 +101,7 @@ module _ (s : Shape) (g : Rights) where
       go on (inr ne) = beside (on (omega arith)) (ways a m p) (ways m b q)
 
   module _ (inside : Inside s g) where
-    source-is : (a b : ℕ) → Source g a b → T (isSource s g a b)
+    pub source-is : (a b : ℕ) → Source g a b → T (isSource s g a b)
     source-is a b h =
         both (not (eqb a b)) (anyBelow (s .points) (λ p. canWrite (g a p) && canRead (g b p))) (apart-test a b (h .apart))
         (any-below (s .points) _ (h .point) (inside a b h .2) (both (canWrite (g a (h .point))) (canRead (g b (h .point))) (h .written) (h .read)))

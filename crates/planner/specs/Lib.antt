@@ -4,6 +4,7 @@ pub mod Walk
 pub mod Search
 pub mod Ledger
 pub mod Law
-pub mod RingTests
+pub mod FlowTests
 pub mod Computed
 pub mod Theorems
+pub mod Tried

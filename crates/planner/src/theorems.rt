@@ -1,27 +1,36 @@
 // What is proved of every walk and every run, for every weight kind: each function's contract is the theorem.
 ghost use Rattle.planner.specs.Theorems.{RunsAreTold, RunsObey, Settles, WalksEnd};
+ghost use Rattle.planner.specs.Tried.{Tried};
+use mesh::peak::Peak;
+use mesh::peak::PeakWeight;
+use mesh::sum::Sum;
+use mesh::sum::SumWeight;
 use mesh::weight::Weight;
 
 // Every walk goes on while a node is left, and ends within 2^(k + 1) − 1 visits with a best plan, where k grants are to decide.
 pub fn walks_end<W: Weight>()
     ensures ends { λ _. ⌜ WalksEnd (W·Weight .meaning) ⌝ }
-{
-}
+{}
 
 // The condition after a visit follows from the condition before it and the test that settled the visit.
 pub fn conditions_settle<W: Weight>()
     ensures follows { λ _. ⌜ Settles (W·Weight .meaning) ⌝ }
-{
-}
+{}
 
 // Every run of calls from an opened book obeys the law.
 pub fn runs_obey<W: Weight>()
     ensures law { λ _. ⌜ RunsObey (W·Weight .meaning) ⌝ }
-{
-}
+{}
 
 // Every list of calls has exactly one run, and it can be computed.
 pub fn runs_are_told<W: Weight>()
     ensures told { λ _. ⌜ RunsAreTold (W·Weight .meaning) ⌝ }
+{}
+
+// What the search gives on the tried tables: plan, weight, visits and order of each.
+pub fn tables_tried()
+    ensures tables { λ _. ⌜ Tried ⌝ }
 {
+    runs_are_told::<Sum>();
+    runs_are_told::<Peak>();
 }

@@ -1,23 +1,30 @@
--- Rings as tests that compute. Each is proved to answer the proposition.
---     anyBelow n f        f passes some number below n
+-- Rings and orders as tests that compute. Each is proved to answer the proposition.
+--     anyBelow n f        f passes some number below n; allBelow n f: every one
 --     isSource s g a b    a is a source of b
 --     flowsTo s g n a b   flow of a comes to b, on the way only over devices below n
 --     hasRing s g         a ring stands
 --     onRing s g d p      the grant of d at p lies on a ring
 --     toDecide s xs       the rows of the grants that lie on a ring, in row order
-use mathlib.Core.Bool.{Bool, false, cond, not, _&&_, _||_}
+--     isOrder s g xs      xs lists the devices in flow order
+use mathlib.Core.Bool.{Bool, true, false, cond, not, _&&_, _||_}
 use mathlib.Core.List.{List, [], _∷_}
 use Prim.Native.Nat.{ℕ, zero, suc, _/_, _%_}
-use lib.Dec.{eqb}
+use lib.Dec.{eqb, ltb}
+use lib.ListN.{length, take, getD}
 use Rattle.mesh.specs.declared.shape.Shape.{Shape}
 use Rattle.mesh.specs.Rights.{canRead, canWrite}
 use Rattle.mesh.specs.Table.{rowsOf}
 use Rattle.flow.specs.Flow.{Rights}
 use Rattle.planner.specs.Grants.{Slot, rightsIn}
+use Rattle.planner.specs.Search.{isIn}
 
 abbrev pub anyBelow : ℕ → (ℕ → Bool) → Bool
 anyBelow zero f = false
 anyBelow (suc n) f = f n || anyBelow n f
+
+abbrev pub allBelow : ℕ → (ℕ → Bool) → Bool
+allBelow zero f = true
+allBelow (suc n) f = f n && allBelow n f
 
 abbrev pub isSource : Shape → Rights → ℕ → ℕ → Bool
 isSource s g a b = not (eqb a b) && anyBelow (s .points) (λ p. canWrite (g a p) && canRead (g b p))
@@ -43,3 +50,19 @@ passing f (suc n) i = cond (f i) (i ∷ passing f n (suc i)) (passing f n (suc i
 
 abbrev pub toDecide : {W : Type 0} → Shape → List (Slot W) → List ℕ
 toDecide s xs = passing (λ i. onRing s (rightsIn s xs) (i / s .points) (i % s .points)) (rowsOf s) 0
+
+abbrev pub allDifferent : List ℕ → Bool
+allDifferent [] = true
+allDifferent (x ∷ xs) = not (isIn x xs) && allDifferent xs
+
+-- d can be listed after those of xs
+abbrev pub isReady : Shape → Rights → List ℕ → ℕ → Bool
+isReady s g xs d = ltb d (s .devices) && (not (isIn d xs) && allBelow (s .devices) (λ a. not (isSource s g a d) || isIn a xs))
+
+abbrev pub isLowest : Shape → Rights → List ℕ → ℕ → Bool
+isLowest s g xs d = isReady s g xs d && allBelow d (λ e. not (isReady s g xs e))
+
+abbrev pub isOrder : Shape → Rights → List ℕ → Bool
+isOrder s g xs =
+    eqb (length xs) (s .devices)
+    && (allDifferent xs && (allBelow (s .devices) (λ d. isIn d xs) && allBelow (s .devices) (λ k. isLowest s g (take k xs) (getD xs k 0))))
