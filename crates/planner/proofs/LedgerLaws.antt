@@ -25,8 +25,8 @@ use Rattle.planner.specs.declared.calls.Answer.the-variants as says
 use Rattle.planner.specs.Grants.{Slot, RowSet, rightsIn, without, grantsIn, numberOf, standing}
 use Rattle.planner.specs.Walk.{Node, Question, Place, at, begun, Walked, stay, visit}
 use Rattle.planner.specs.Search.{Decides, revoked}
-use Rattle.planner.specs.Ledger.{Search, Ledger, book, searching, slotsOf, first, slotAt, isVacant, isEmpty, nodeLeft, tooFew, outside, refusal, freshness, opened, asks, Done, write, erase, read, start, advance, take, abandon, Told, misuse, refused, done, Run, none, then}
-use Rattle.planner.specs.Law.{freshNumber, came, went, total, Exact, Cheapest, Taking, Law}
+use Rattle.planner.specs.Ledger.{Search, Ledger, book, searching, slotsOf, first, slotAt, isVacant, isEmpty, nodeLeft, tooFew, outside, refusal, freshness, freshNumber, opened, asks, Done, write, erase, read, start, advance, take, abandon, Told, misuse, refused, done, Run, none, then}
+use Rattle.planner.specs.Law.{came, went, total, Exact, Cheapest, Taking, Law}
 use Rattle.planner.proofs.GrantLaws.{length-without, standing-without, standing-set}
 use Rattle.planner.proofs.QuestionLaws.{Planned, planned, revoked-stand}
 

@@ -7,4 +7,5 @@ pub mod TestLaws
 pub mod RingLaws
 pub mod OrderTestLaws
 pub mod ComputedLaws
+pub mod MarkLaws
 pub mod TriedLaws

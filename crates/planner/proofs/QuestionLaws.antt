@@ -152,7 +152,7 @@ in-at i [] h = absurd h
 in-at i (d ∷ ds) (inl e) = (0, omega arith, sym e)
 in-at i (d ∷ ds) (inr h) = let r = in-at i ds h in (suc (r .0), omega arith, r .2)
 
-at-in : (ds : List ℕ) (j : ℕ) → j < length ds → In (getD ds j 0) ds
+pub at-in : (ds : List ℕ) (j : ℕ) → j < length ds → In (getD ds j 0) ds
 at-in [] j h = absurd (not-suc-le-zero h)
 at-in (d ∷ ds) zero h = inl refl
 at-in (d ∷ ds) (suc j) h = inr (at-in ds j (le-of-suc-le-suc h))

@@ -15,12 +15,10 @@ use Rattle.mesh.specs.Kind.{Kind}
 use Rattle.flow.specs.Flow.{Ring}
 use Rattle.planner.specs.declared.calls.Lent.{Lent}
 use Rattle.planner.specs.declared.calls.Plan.{Plan}
-use Rattle.planner.specs.declared.calls.Written.{Written}
-use Rattle.planner.specs.declared.calls.Written.the-variants.{Fresh, Replaced}
 use Rattle.planner.specs.declared.calls.Answer.{Answer}
 use Rattle.planner.specs.declared.calls.Answer.the-variants as says
 use Rattle.planner.specs.Grants.{Slot, RowSet, rightsIn, without, weightOf, numberOf, standing}
-use Rattle.planner.specs.Ledger.{Search, Ledger, book, searching, slotsOf, isVacant, opened, Told, Run}
+use Rattle.planner.specs.Ledger.{Search, Ledger, book, searching, slotsOf, isVacant, opened, freshNumber, Told, Run}
 
 pub record Exact {W : Type 0} (k : Kind W) (q : Search W) (plan : Plan W) (slots left : List (Slot W)) (grants : RowSet) : Type 0 where
   -- they stood when the search started
@@ -51,11 +49,6 @@ pub record Taking {W : Type 0} (k : Kind W) (s : Shape) (cs : List Lent) (earlie
   pub ringless : Ring (rightsIn s left) → ⊥
   pub exact : Exact k owner plan slots left grants
   pub cheapest : Cheapest k s owner (plan .weight)
-
--- fresh 1, replaced 0
-abbrev pub freshNumber : Written → ℕ
-freshNumber Fresh = 1
-freshNumber Replaced = 0
 
 -- the grants that an answer tells of as new
 abbrev pub came : {W : Type 0} → Answer W → ℕ

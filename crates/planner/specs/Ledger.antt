@@ -4,7 +4,7 @@
 --     openRefusal d p n     the first refusal of an open of d devices and p points with n rows lent
 --     opened s              the ledger after an open that is not refused
 --     admitted l c          the compiler admits the call: a search has the book, or none does
---     refusal s k l c n     the first refusal of the call c with n rows lent, in checking order
+--     refusal k s l c n     the first refusal of the call c with n rows lent, in checking order
 --     Done k s l c a l′     a call that is not refused answers a and leaves l′
 --     Told k s l c a l′     any call answers a and leaves l′
 --     Run k s l cs as l′    the calls cs, one after the other, are told the answers as and lead from l to l′
@@ -47,10 +47,6 @@ pub data Ledger (W : Type 0) : Type 0 where
 abbrev pub slotsOf : {W : Type 0} → Ledger W → List (Slot W)
 slotsOf (book xs) = xs
 slotsOf (searching xs q) = xs
-
-abbrev pub searchOf : {W : Type 0} → Ledger W → Option (Search W)
-searchOf (book xs) = None
-searchOf (searching xs q) = Some q
 
 -- ---- refusals
 
@@ -134,6 +130,11 @@ opened s = book (replicate (rowsOf s) None)
 abbrev pub freshness : {W : Type 0} → Slot W → Written
 freshness None = Fresh
 freshness (Some x) = Replaced
+
+-- the numbers that a write answers
+abbrev pub freshNumber : Written → ℕ
+freshNumber Fresh = 1
+freshNumber Replaced = 0
 
 -- e and zero for an empty slot
 abbrev pub reading : {W : Type 0} → Kind W → Slot W → Answer W

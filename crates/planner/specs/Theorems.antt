@@ -2,23 +2,31 @@
 --     EndsWithin k s xs ds m   the walk over the grants ds of the slots xs makes at most m visits, goes on while a node is left, and ends with a best plan
 --     WalksEnd k               every walk ends within 2^(n+1) − 1 visits, where n grants are to decide
 --     Settles k                the search's condition follows from the one before it, the test that settled the visit, and whether a keep is left to turn
+--     MarksStand               a row's first mark is the choice of the node to be visited next for it, undecided where it has none, blank where the row is not to decide
+--     OpensFit                 an open is refused 3 exactly if its size is out of range, else 4 exactly if rows are missing; else there is a table of that size
 --     RunsObey k               every run obeys the law
 --     RunsAreTold k            every list of calls has one run, and it is the one that computes
 use mathlib.Core.Path.{_≡_}
-use mathlib.Core.List.{List}
-use Prim.Native.Nat.{ℕ, _+_, _-_, _^_, _≤_}
-use lib.ListN.{length}
+use mathlib.Core.List.{List, [], _∷_, _++_}
+use mathlib.Core.Logic.{_⊎_}
+use Prim.Native.Nat.{ℕ, _+_, _-_, _*_, _^_, _≤_, _<_}
+use lib.ListN.{length, getD}
 use Rattle.std.specs.declared.option.Option.{Option}
 use Rattle.std.specs.declared.option.Option.the-variants.{Some, None}
 use Rattle.mesh.specs.declared.shape.Shape.{Shape}
+use Rattle.mesh.specs.declared.refusal.Refusal.{Refusal}
+use Rattle.mesh.specs.declared.refusal.Refusal.the-variants.{WrongSize, ShortMemory}
+use Rattle.mesh.specs.declared.row.Choice.the-variants.{Blank, Undecided}
 use Rattle.mesh.specs.Kind.{Kind}
+use Rattle.mesh.specs.Table.{InRange}
+use Rattle.flow.specs.Flow.{In}
 use Rattle.planner.specs.declared.calls.Lent.{Lent}
 use Rattle.planner.specs.declared.calls.Answer.{Answer}
 use Rattle.planner.specs.declared.walk.Outcome.{Outcome}
 use Rattle.planner.specs.Grants.{Slot}
-use Rattle.planner.specs.Walk.{Node, Question, Place, at, begun, Visit, Walked, condition, settled, hasKeep}
-use Rattle.planner.specs.Search.{Decides, ringQuestion}
-use Rattle.planner.specs.Ledger.{Ledger, opened, Run}
+use Rattle.planner.specs.Walk.{Decision, keep, Node, Question, Place, at, begun, Visit, Walked, condition, settled, hasKeep}
+use Rattle.planner.specs.Search.{Rising, Decides, markOf, firstMark, ringQuestion}
+use Rattle.planner.specs.Ledger.{Ledger, openRefusal, opened, Run}
 use Rattle.planner.specs.Law.{Law}
 use Rattle.planner.specs.Computed.{run}
 
@@ -34,6 +42,26 @@ WalksEnd {W} k = (s : Shape) (xs : List (Slot W)) (ds : List ℕ) → Decides s 
 abbrev pub Settles : {W : Type 0} → Kind W → Type 0
 Settles {W} k = (s : Shape) (xs : List (Slot W)) (ds : List ℕ) (n : Node) (b : Option Node) (t : Outcome) (p : Place)
     → Visit k (ringQuestion k s xs ds) n b t p → condition (p .next) ≡ settled (condition (Some n)) t (hasKeep n)
+
+-- the node's choices in row order
+abbrev pub inOrder : Node → List Decision
+inOrder [] = []
+inOrder (c ∷ n) = inOrder n ++ (c ∷ [])
+
+pub record Marked (ds : List ℕ) (next : Option Node) (choices : List Decision) : Type 0 where
+  pub chosen : (j : ℕ) → j < length choices → firstMark ds next (getD ds j 0) ≡ markOf (getD choices j keep)
+  pub undecided : (j : ℕ) → length choices ≤ j → j < length ds → firstMark ds next (getD ds j 0) ≡ Undecided
+  pub blank : (i : ℕ) → (In i ds → ⊥) → firstMark ds next i ≡ Blank
+
+pub record MarksStand : Type 0 where
+  pub visiting : (ds : List ℕ) (n : Node) → Rising ds → length n ≤ length ds → Marked ds (Some n) (inOrder n)
+  pub ended : (ds : List ℕ) → Marked ds None []
+
+pub record OpensFit (devices points lent : ℕ) : Type 0 where
+  pub size : openRefusal devices points lent ≡ Some WrongSize → InRange devices × InRange points → ⊥
+  pub rows : openRefusal devices points lent ≡ Some ShortMemory → InRange devices × InRange points × (lent < devices * points)
+  pub fits : openRefusal devices points lent ≡ None → (s : Shape) × (s .devices ≡ devices) × (s .points ≡ points) × (devices * points ≤ lent)
+  pub no-other : (why : Refusal) → openRefusal devices points lent ≡ Some why → (why ≡ WrongSize) ⊎ (why ≡ ShortMemory)
 
 abbrev pub RunsObey : {W : Type 0} → Kind W → Type 0
 RunsObey {W} k = (s : Shape) (cs : List Lent) (answers : List (Answer W)) (last : Ledger W) → Run k s (opened s) cs answers last → Law k s cs answers last
