@@ -30,14 +30,12 @@ use Rattle.planner.specs.Ledger.{Search, Ledger, book, searching, first, nodeL
 use Rattle.planner.specs.FlowTests.{hasRing, toDecide}
 use Rattle.planner.specs.Theorems.{WalksEnd}
 use Rattle.planner.proofs.QuestionLaws.{few, planned}
+use Rattle.planner.proofs.TestLaws.{clash}
 use Rattle.planner.proofs.RingLaws.{has-ring, to-decide, decides-unique}
 use Rattle.planner.proofs.LedgerLaws.{Searching, Sound, told-sound, opened-sound, walk-ended}
 use Rattle.planner.specs.Computed.{Tests, ringTests, isNoLess, outcomeOf, leads, walks, makes, tell, run}
 
 -- ---- the walk
-
-clash : _≡_ {A = ℕ} 0 1 → ⊥
-clash z = omega arith
 
 -- a test answers a proposition
 abbrev Answers : Bool → Type 0 → Type 0

@@ -76,7 +76,7 @@ opened-sound k s = length-replicate (rowsOf s) None
 
 -- ---- counted
 
-first-none : (b : Bool) (why : Refusal) (rest : List (Bool × Refusal)) → first ((b, why) ∷ rest) ≡ None → (b ≡ false) × (first rest ≡ None)
+pub first-none : (b : Bool) (why : Refusal) (rest : List (Bool × Refusal)) → first ((b, why) ∷ rest) ≡ None → (b ≡ false) × (first rest ≡ None)
 first-none true why rest e = (cc, cc)
 first-none false why rest e = (refl, e)
 

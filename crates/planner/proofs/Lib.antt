@@ -9,3 +9,4 @@ pub mod OrderTestLaws
 pub mod ComputedLaws
 pub mod MarkLaws
 pub mod TriedLaws
+pub mod WrongLaws

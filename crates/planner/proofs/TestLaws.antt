@@ -90,3 +90,15 @@ test-not false n = tt
 pub not-test : (b : Bool) → T (not b) → T b → ⊥
 not-test true n h = n
 not-test false n h = h
+
+pub is-true : (b : Bool) → T b → b ≡ true
+is-true true h = refl
+is-true false h = absurd h
+
+pub is-false : (b : Bool) → (T b → ⊥) → b ≡ false
+is-false true n = absurd (n tt)
+is-false false n = refl
+
+-- from equations that cannot be, `cc` has this one
+pub clash : _≡_ {A = ℕ} 0 1 → ⊥
+clash e = omega arith

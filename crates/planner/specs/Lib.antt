@@ -8,3 +8,4 @@ pub mod FlowTests
 pub mod Computed
 pub mod Theorems
 pub mod Tried
+pub mod WrongPlanners

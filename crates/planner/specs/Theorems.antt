@@ -57,11 +57,14 @@ pub record MarksStand : Type 0 where
   pub visiting : (ds : List ℕ) (n : Node) → Rising ds → length n ≤ length ds → Marked ds (Some n) (inOrder n)
   pub ended : (ds : List ℕ) → Marked ds None []
 
-pub record OpensFit (devices points lent : ℕ) : Type 0 where
+pub record OpenFits (devices points lent : ℕ) : Type 0 where
   pub size : openRefusal devices points lent ≡ Some WrongSize → InRange devices × InRange points → ⊥
   pub rows : openRefusal devices points lent ≡ Some ShortMemory → InRange devices × InRange points × (lent < devices * points)
   pub fits : openRefusal devices points lent ≡ None → (s : Shape) × (s .devices ≡ devices) × (s .points ≡ points) × (devices * points ≤ lent)
   pub no-other : (why : Refusal) → openRefusal devices points lent ≡ Some why → (why ≡ WrongSize) ⊎ (why ≡ ShortMemory)
+
+abbrev pub OpensFit : Type 0
+OpensFit = (devices points lent : ℕ) → OpenFits devices points lent
 
 abbrev pub RunsObey : {W : Type 0} → Kind W → Type 0
 RunsObey {W} k = (s : Shape) (cs : List Lent) (answers : List (Answer W)) (last : Ledger W) → Run k s (opened s) cs answers last → Law k s cs answers last

@@ -98,16 +98,20 @@ pair a b = record {
 abbrev pub crossed : List Entry
 crossed = entry 0 0 Append 5 ∷ entry 0 1 Read 9 ∷ entry 0 2 Read 9 ∷ entry 1 0 Read 9 ∷ entry 1 1 Append 3 ∷ entry 1 2 Append 3 ∷ []
 
+-- two devices, each a source of the other
+abbrev pub firstTrial : Trial Sum
+firstTrial = record {
+  shape = two-by-two;
+  grants = entry 0 0 Read 5 ∷ entry 0 1 Append 3 ∷ entry 1 0 Append 4 ∷ entry 1 1 Read 9 ∷ [];
+  weight = record { value = 3 };
+  revokes = (0, 1) ∷ [];
+  visits = 9;
+  order = 1 ∷ 0 ∷ [];
+}
+
 abbrev pub sumTrials : List (Trial Sum)
 sumTrials =
-    record {
-      shape = two-by-two;
-      grants = entry 0 0 Read 5 ∷ entry 0 1 Append 3 ∷ entry 1 0 Append 4 ∷ entry 1 1 Read 9 ∷ [];
-      weight = record { value = 3 };
-      revokes = (0, 1) ∷ [];
-      visits = 9;
-      order = 1 ∷ 0 ∷ [];
-    }
+    firstTrial
     ∷ record { shape = two-by-two; grants = []; weight = record { value = 0 }; revokes = []; visits = 1; order = 0 ∷ 1 ∷ [] }
     ∷ record { shape = shaped 1 1 tt tt tt tt; grants = entry 0 0 Both 7 ∷ []; weight = record { value = 0 }; revokes = []; visits = 1; order = 0 ∷ [] }
     ∷ pair 7 2

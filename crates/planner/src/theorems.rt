@@ -1,6 +1,8 @@
 // What is proved of every walk and every run, for every weight kind: each function's contract is the theorem.
-ghost use Rattle.planner.specs.Theorems.{RunsAreTold, RunsObey, Settles, WalksEnd};
+ghost use Rattle.planner.specs.Theorems.{MarksStand, OpensFit, RunsAreTold, RunsObey, Settles, WalksEnd};
+ghost use Rattle.mesh.specs.Kind.{Lawful};
 ghost use Rattle.planner.specs.Tried.{Tried};
+ghost use Rattle.planner.specs.WrongPlanners.{WrongPlanners, level};
 use mesh::peak::Peak;
 use mesh::peak::PeakWeight;
 use mesh::sum::Sum;
@@ -15,6 +17,16 @@ pub fn walks_end<W: Weight>()
 // The condition after a visit follows from the condition before it and the test that settled the visit.
 pub fn conditions_settle<W: Weight>()
     ensures follows { λ _. ⌜ Settles (W·Weight .meaning) ⌝ }
+{}
+
+// The first mark of each row, at every place of the walk and after its end.
+pub fn marks_stand()
+    ensures marks { λ _. ⌜ MarksStand ⌝ }
+{}
+
+// When an open is refused, and with which number.
+pub fn opens_fit()
+    ensures opens { λ _. ⌜ OpensFit ⌝ }
 {}
 
 // Every run of calls from an opened book obeys the law.
@@ -33,4 +45,17 @@ pub fn tables_tried()
 {
     runs_are_told::<Sum>();
     runs_are_told::<Peak>();
+}
+
+// A kind that ranks all weights equal, and is otherwise the kind W, is lawful too.
+pub fn level_kinds_are_lawful<W: Weight>()
+    ensures lawful { λ _. ⌜ Lawful (level (W·Weight .meaning)) ⌝ }
+{}
+
+// Five wrong planners, each with the part of the law that it contradicts.
+pub fn wrong_planners_fail()
+    ensures wrong { λ _. ⌜ WrongPlanners ⌝ }
+{
+    runs_are_told::<Sum>();
+    level_kinds_are_lawful::<Sum>();
 }

@@ -1,0 +1,78 @@
+-- Five wrong planners, each with the part of the law that it contradicts. They plan for the first tried table.
+--     level k          the kind k, but all its weights rank equal
+--     rollKind         a lawful kind whose weights keep the order in which they were joined
+--     WrongPlanners    what stops each of them
+use mathlib.Core.Path.{_≡_}
+use mathlib.Core.Bool.{Bool, true, false}
+use mathlib.Core.List.{List, [], _∷_, _++_, reverse}
+use Prim.Native.Nat.{ℕ}
+use lib.Dec.{leb}
+use lib.ListN.{length}
+use Rattle.mesh.specs.declared.sum.Sum.{Sum}
+use Rattle.mesh.specs.Kind.{Kind, Lawful}
+use Rattle.mesh.specs.Kinds.{admitted, amountOf, sumKind}
+use Rattle.flow.specs.Flow.{Ring}
+use Rattle.planner.specs.declared.calls.Lent.{Lent}
+use Rattle.planner.specs.declared.calls.Answer.{Answer}
+use Rattle.planner.specs.declared.calls.Answer.the-variants as says
+use Rattle.planner.specs.Grants.{Slot, RowSet, rightsIn, without, chosen, joined, weightOf}
+use Rattle.planner.specs.Search.{isIn}
+use Rattle.planner.specs.Ledger.{Search, Ledger, searching, started, Told}
+use Rattle.planner.specs.Law.{Cheapest, Law}
+use Rattle.planner.specs.Tried.{Entry, Trial, two-by-two, firstTrial, filled, callsOf, answersOf}
+
+abbrev pub level : {W : Type 0} → Kind W → Kind W
+level k = record {
+  number = k .number;
+  zero = k .zero;
+  admits = k .admits;
+  of = k .of;
+  amount = k .amount;
+  join = k .join;
+  atMost = λ a b. true;
+  text = k .text;
+}
+
+-- the amount of a roll of one
+abbrev pub rolled : List ℕ → ℕ
+rolled [] = 0
+rolled (n ∷ []) = amountOf n
+rolled (n ∷ m ∷ ns) = 0
+
+abbrev pub rollKind : Kind (List ℕ)
+rollKind = record {
+  number = 3;
+  zero = [];
+  admits = admitted;
+  of = λ n. n ∷ [];
+  amount = rolled;
+  join = _++_;
+  atMost = λ a b. leb (length a) (length b);
+  text = λ w. [];
+}
+
+-- the first tried table, and a search that has just started on it
+abbrev pub slots : {W : Type 0} → Kind W → List (Slot W)
+slots k = filled k two-by-two (firstTrial .grants)
+
+abbrev pub seeker : Search Sum
+seeker = started (slots sumKind) (0 ∷ 1 ∷ 2 ∷ 3 ∷ [])
+
+abbrev pub every : RowSet
+every i = true
+
+pub record WrongPlanners : Type 0 where
+  -- it revokes every grant on a ring: not cheapest
+  pub all-on-rings : Cheapest sumKind two-by-two seeker (weightOf sumKind (λ i. isIn i (seeker .rows)) (seeker .slots)) → ⊥
+  -- it takes an empty plan: not ringless
+  pub empty-plan : Ring (rightsIn two-by-two (without (λ _. false) (seeker .slots)))
+  -- it visits nothing and says ended, or says anything else: not told
+  pub no-visit : (c : Lent) (ended : Bool) (l : Ledger Sum) → Told sumKind two-by-two (searching (slots sumKind) seeker) c (says.Advanced (record { visits = 0; ended = ended })) l → ⊥
+  -- it joins in another order: not exact, under a lawful kind that tells the orders apart
+  pub lawful : Lawful rollKind
+  pub other-order : weightOf rollKind every (slots rollKind) ≡ joined rollKind (rollKind .zero) (reverse (chosen every (slots rollKind))) → ⊥
+  -- it ranks all weights equal: lawful, so every part holds by that comparison; sum's is another
+  pub all-equal : Lawful (level sumKind)
+  pub not-sum : sumKind .atMost (weightOf sumKind every (seeker .slots)) (sumKind .zero) ≡ false
+  -- whatever obeys the law on the first tried table gives its answers
+  pub no-other : (answers : List (Answer Sum)) (last : Ledger Sum) → Law sumKind two-by-two (callsOf firstTrial) answers last → answers ≡ answersOf firstTrial
