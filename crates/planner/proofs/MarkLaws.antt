@@ -17,14 +17,15 @@ use Rattle.mesh.specs.declared.refusal.Refusal.{Refusal}
 use Rattle.mesh.specs.declared.refusal.Refusal.the-variants.{WrongSize, ShortMemory}
 use Rattle.mesh.specs.declared.row.Choice.{Choice}
 use Rattle.mesh.specs.declared.row.Choice.the-variants.{Blank, Undecided}
+use Rattle.mesh.specs.Kind.{Kind, Lawful}
 use Rattle.mesh.specs.Table.{InRange}
 use Rattle.flow.specs.Flow.{In}
 use Rattle.planner.specs.Walk.{Decision, keep, Node}
-use Rattle.planner.specs.Search.{Rising, markOf, choiceOf, isIn, choicesOf, firstMark}
+use Rattle.planner.specs.Search.{Rising, markOf, choiceOf, isIn, choicesOf, firstMark, secondMark}
 use Rattle.planner.specs.Ledger.{first, inRange, openRefusal}
 use Rattle.planner.specs.Theorems.{inOrder, Marked, MarksStand, OpenFits, OpensFit}
 use Rattle.planner.proofs.TestLaws.{in-test, test-in, clash, is-true, is-false}
-use Rattle.planner.proofs.QuestionLaws.{at-in}
+use Rattle.planner.proofs.QuestionLaws.{at-in, next-fits, held-in}
 
 length-in-order : (n : Node) → length (inOrder n) ≡ length n
 length-in-order [] = refl
@@ -79,19 +80,16 @@ mark-in ds next j h = ap (λ b. cond b (choiceOf ds (choicesOf next) (getD ds j 
 mark-out : (ds : List ℕ) (next : Option Node) (i : ℕ) → (In i ds → ⊥) → firstMark ds next i ≡ Blank
 mark-out ds next i n = ap (λ b. cond b (choiceOf ds (choicesOf next) i) Blank) (out-false i ds n)
 
-pub marks-stand : MarksStand
-marks-stand = record {
-  visiting = λ ds n r l. record {
-    chosen = λ j h. let e = length-in-order n in mark-in ds (Some n) j (omega arith) ∙ choice-at ds r n l j (omega arith);
-    undecided = λ j g h. let e = length-in-order n in mark-in ds (Some n) j h ∙ choice-none ds r n j (omega arith) h;
-    blank = mark-out ds (Some n);
-  };
-  ended = λ ds. record {
-    chosen = λ j h. absurd (not-suc-le-zero h);
-    undecided = λ j g h. mark-in ds None j h;
-    blank = mark-out ds None;
-  };
-}
+pub marks-stand : {W : Type 0} (k : Kind W) → Lawful k → MarksStand k
+marks-stand k law s xs ds v p d w =
+    let n = choicesOf (p .next) in
+    let fits = next-fits k law s xs ds d w in
+    let long = length-in-order n in
+    record {
+      chosen = λ j h. mark-in ds (p .next) j (omega arith) ∙ choice-at ds (d .rising) n fits j (omega arith);
+      undecided = λ j g h. mark-in ds (p .next) j h ∙ choice-none ds (d .rising) n j (omega arith) h;
+      blank = λ i out. (mark-out ds (p .next) i out, is-false (secondMark ds (p .best) i) (λ t. out (held-in k law s xs ds d w i t)));
+    }
 
 -- ---- opens
 

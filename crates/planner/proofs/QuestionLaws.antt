@@ -22,10 +22,10 @@ use Rattle.mesh.specs.Table.{rowOf}
 use Rattle.flow.specs.Flow.{Rights, Source, In, Chain, Ring, Adjacent, OnRing}
 use Rattle.planner.specs.Grants.{Slot, RowSet, rightsIn, without, only, weightOf}
 use Rattle.planner.specs.Walk.{Decision, Node, keep, revoke, Place, begun, Walked}
-use Rattle.planner.specs.Search.{Decides, markOf, choiceOf, isKeep, isRevoke, kept, revoked, ringQuestion}
+use Rattle.planner.specs.Search.{Decides, markOf, choiceOf, isKeep, isRevoke, kept, revoked, choicesOf, secondMark, ringQuestion}
 use Rattle.planner.specs.Ledger.{isVacant}
 use Rattle.planner.proofs.GrantLaws.{rowRight, row-without, part-weighs}
-use Rattle.planner.proofs.WalkLaws.{revoking, Extends, Answers, Matched, ended-cheapest, Good, best-good, few-visits}
+use Rattle.planner.proofs.WalkLaws.{revoking, Extends, Answers, Matched, ended-cheapest, Fits, Good, place-good, few-visits}
 
 -- ---- rings of some rights that are rings of others
 
@@ -236,7 +236,7 @@ module _ {W : Type 0} (k : Kind W) (law : Lawful k) (s : Shape) (xs : List (Slot
       reader x y adj h = stays (rowOf s y (h .point)) (decides .all y (h .point) (on-it x y adj h y (inr refl))) (rest-stands s xs canRead refl (revoked ds n) y (h .point) (h .read))
 
   -- the sets of grants whose removal leaves no ring, as answers to the question
-  ringAnswers : Answers k (ringQuestion k s xs ds)
+  ringAnswers : Answers k (ringQuestion k s xs ds) (length ds)
   ringAnswers = record {
     Answer = RowSet;
     revokes = λ r j. r (getD ds j 0);
@@ -248,7 +248,22 @@ module _ {W : Type 0} (k : Kind W) (law : Lawful k) (s : Shape) (xs : List (Slot
   }
 
   pub few : {v : ℕ} {p : Place} → Walked k (ringQuestion k s xs ds) v begun p → v ≤ 2 ^ (length ds + 1) - 1
-  few w = few-visits k (ringQuestion k s xs ds) (λ n e good ring. good (ring-of-kept n e ring)) w
+  few w = few-visits k (ringQuestion k s xs ds) (length ds) (λ n e good ring. good (ring-of-kept n e ring)) w
+
+  -- the next node has a choice for some of the grants to decide, and the best plan holds none but these
+  pub next-fits : {v : ℕ} {p : Place} → Walked k (ringQuestion k s xs ds) v begun p → length (choicesOf (p .next)) ≤ length ds
+  next-fits {p = p} w = go (p .next) (place-good k (ringQuestion k s xs ds) (length ds) (λ n e good ring. good (ring-of-kept n e ring)) w .0)
+    where
+      go : (n : Option Node) → Fits k (ringQuestion k s xs ds) (length ds) (λ m e good ring. good (ring-of-kept m e ring)) n → length (choicesOf n) ≤ length ds
+      go None f = omega arith
+      go (Some n) f = f
+
+  pub held-in : {v : ℕ} {p : Place} → Walked k (ringQuestion k s xs ds) v begun p → (i : ℕ) → T (secondMark ds (p .best) i) → In i ds
+  held-in {p = p} w i = go (p .best) (place-good k (ringQuestion k s xs ds) (length ds) (λ n e good ring. good (ring-of-kept n e ring)) w .1)
+    where
+      go : (b : Option Node) → Good k (ringQuestion k s xs ds) (length ds) (λ m e good ring. good (ring-of-kept m e ring)) b → T (secondMark ds b i) → In i ds
+      go None g h = absurd h
+      go (Some b) g h = revoked-in ds b i (g .0) h
 
   -- what is promised of the plan that a node revokes
   pub record Planned (n : Node) : Type 0 where
@@ -259,10 +274,10 @@ module _ {W : Type 0} (k : Kind W) (law : Lawful k) (s : Shape) (xs : List (Slot
   -- a walk that has ended has a best plan, an answer that weighs at most every other
   pub planned : {v : ℕ} (p : Place) → Walked k (ringQuestion k s xs ds) v begun p → p .next ≡ None → (n : Node) × (p .best ≡ Some n) × Planned n
   unfolding ringAnswers
-  planned p w e = go (p .best) refl (best-good k (ringQuestion k s xs ds) (ringAnswers .full) w) (ended-cheapest k law (ringQuestion k s xs ds) ringAnswers w e)
+  planned p w e = go (p .best) refl (place-good k (ringQuestion k s xs ds) (length ds) (ringAnswers .full) w .1) (ended-cheapest k law (ringQuestion k s xs ds) (length ds) ringAnswers w e)
     where
-      go : (b : Option Node) → p .best ≡ b → Good k (ringQuestion k s xs ds) (ringAnswers .full) b
-          → ((r : RowSet) → (Ring (rightsIn s (without r xs)) → ⊥) → Matched k law (ringQuestion k s xs ds) ringAnswers b r) → (n : Node) × (p .best ≡ Some n) × Planned n
+      go : (b : Option Node) → p .best ≡ b → Good k (ringQuestion k s xs ds) (length ds) (ringAnswers .full) b
+          → ((r : RowSet) → (Ring (rightsIn s (without r xs)) → ⊥) → Matched k law (ringQuestion k s xs ds) (length ds) ringAnswers b r) → (n : Node) × (p .best ≡ Some n) × Planned n
       go None q g c = absurd (c (λ _. true) (none-left s xs))
       go (Some n) q g c = (n, q, record { short = g .0; ringless = g .1; cheapest = c })
 

@@ -47,16 +47,17 @@ later-after r (revoke ∷ n) l = later-after r n l
 
 -- ---- the two facts of the tests, and of full nodes
 
-pub record Answers {W : Type 0} (k : Kind W) (q : Question W) : Type 1 where
+-- size is how many grants are to decide
+pub record Answers {W : Type 0} (k : Kind W) (q : Question W) (size : ℕ) : Type 1 where
   pub Answer : Type 0
   pub revokes : Answer → ℕ → Bool
   pub weight : Answer → W
   pub Solves : Answer → Type 0
   pub hopeless : (n : Node) (r : Answer) → q .Hopeless n → Extends (revokes r) n → Solves r → ⊥
   pub cheaper : (n : Node) (r : Answer) → Extends (revokes r) n → T (k .atMost (q .weight n) (weight r))
-  pub full : (n : Node) → length n ≡ q .size → (q .Hopeless n → ⊥) → q .Solved n
+  pub full : (n : Node) → length n ≡ size → (q .Hopeless n → ⊥) → q .Solved n
 
-module _ {W : Type 0} (k : Kind W) (law : Lawful k) (q : Question W) (f : Answers k q) where
+module _ {W : Type 0} (k : Kind W) (law : Lawful k) (q : Question W) (size : ℕ) (f : Answers k q size) where
   -- the best plan weighs at most the answer
   abbrev pub Matched : Option Node → f .Answer → Type 0
   Matched None r = ⊥
@@ -112,24 +113,24 @@ module _ {W : Type 0} (k : Kind W) (law : Lawful k) (q : Question W) (f : Answer
 
 -- ---- what holds of every place of the walk
 
-module _ {W : Type 0} (k : Kind W) (q : Question W) (full : (n : Node) → length n ≡ q .size → (q .Hopeless n → ⊥) → q .Solved n) where
+module _ {W : Type 0} (k : Kind W) (q : Question W) (size : ℕ) (full : (n : Node) → length n ≡ size → (q .Hopeless n → ⊥) → q .Solved n) where
   -- a node has no more choices than there are grants to decide, and the best plan is an answer
-  abbrev Fits : Option Node → Type 0
+  abbrev pub Fits : Option Node → Type 0
   Fits None = Unit {0}
-  Fits (Some n) = length n ≤ q .size
+  Fits (Some n) = length n ≤ size
 
   abbrev pub Good : Option Node → Type 0
   Good None = Unit {0}
-  Good (Some b) = (length b ≤ q .size) × q .Solved b
+  Good (Some b) = (length b ≤ size) × q .Solved b
 
-  fits-after : (n : Node) → length n ≤ q .size → Fits (after n)
+  fits-after : (n : Node) → length n ≤ size → Fits (after n)
   fits-after [] h = tt
   fits-after (keep ∷ n) h = h
   fits-after (revoke ∷ n) h = fits-after n (omega arith)
 
   -- a node with a choice for every grant is not opened
-  fits-deeper : (n : Node) → (q .Hopeless n → ⊥) → (q .Solved n → ⊥) → length n ≤ q .size → length n < q .size
-  fits-deeper n h u l = elim (cases-lt (length n) (q .size)) [ inl lt ↦ lt | inr ge ↦ absurd (u (full n (omega arith) h)) ]
+  fits-deeper : (n : Node) → (q .Hopeless n → ⊥) → (q .Solved n → ⊥) → length n ≤ size → length n < size
+  fits-deeper n h u l = elim (cases-lt (length n) (size)) [ inl lt ↦ lt | inr ge ↦ absurd (u (full n (omega arith) h)) ]
 
   visit-good : {n : Node} {b : Option Node} {t : Outcome} {p : Place} → Visit k q n b t p → Fits (Some n) → Good b → Fits (p .next) × Good (p .best)
   visit-good {n} (no-less h) f g = (fits-after n f, g)
@@ -137,12 +138,12 @@ module _ {W : Type 0} (k : Kind W) (q : Question W) (full : (n : Node) → lengt
   visit-good {n} (best-plan h ok solved) f g = (fits-after n f, (f, solved))
   visit-good {n} (open-node h ok unsolved) f g = (fits-deeper n ok unsolved f, g)
 
-  walk-good : {v : ℕ} {p p′ : Place} → Walked k q v p p′ → Fits (p .next) → Good (p .best) → Good (p′ .best)
-  walk-good stay f g = g
+  walk-good : {v : ℕ} {p p′ : Place} → Walked k q v p p′ → Fits (p .next) → Good (p .best) → Fits (p′ .next) × Good (p′ .best)
+  walk-good stay f g = (f, g)
   walk-good (visit h w) f g = let on = visit-good h f g in walk-good w (on .0) (on .1)
 
-  pub best-good : {v : ℕ} {p : Place} → Walked k q v begun p → Good (p .best)
-  best-good w = walk-good w (omega arith) tt
+  pub place-good : {v : ℕ} {p : Place} → Walked k q v begun p → Fits (p .next) × Good (p .best)
+  place-good w = walk-good w (omega arith) tt
 
   -- ---- how many visits are left
 
@@ -160,9 +161,9 @@ module _ {W : Type 0} (k : Kind W) (q : Question W) (full : (n : Node) → lengt
   -- at most m visits are left
   abbrev Left : Option Node → ℕ → Type 0
   Left None m = Unit {0}
-  Left (Some n) m = (d : ℕ) × (d + length n ≡ q .size) × (below d + later d n ≤ m)
+  Left (Some n) m = (d : ℕ) × (d + length n ≡ size) × (below d + later d n ≤ m)
 
-  left-after : (n : Node) (d m : ℕ) → d + length n ≡ q .size → later d n ≤ m → Left (after n) m
+  left-after : (n : Node) (d m : ℕ) → d + length n ≡ size → later d n ≤ m → Left (after n) m
   unfolding later
   left-after [] d m e h = tt
   left-after (keep ∷ n) d m e h = (d, e, h)
@@ -173,7 +174,7 @@ module _ {W : Type 0} (k : Kind W) (q : Question W) (full : (n : Node) → lengt
   below-some zero = omega arith
   below-some (suc d) = omega arith
 
-  left-deeper : (n : Node) (d m : ℕ) → (q .Hopeless n → ⊥) → (q .Solved n → ⊥) → d + length n ≡ q .size → below d + later d n ≤ suc m → Left (Some (keep ∷ n)) m
+  left-deeper : (n : Node) (d m : ℕ) → (q .Hopeless n → ⊥) → (q .Solved n → ⊥) → d + length n ≡ size → below d + later d n ≤ suc m → Left (Some (keep ∷ n)) m
   unfolding below later
   left-deeper n zero m h u e l = absurd (u (full n (omega arith) h))
   left-deeper n (suc d) m h u e l = (d, omega arith, omega arith)
@@ -197,9 +198,9 @@ module _ {W : Type 0} (k : Kind W) (q : Question W) (full : (n : Node) → lengt
       let p : 2 ^ (suc d + 1) ≡ 2 ^ (d + 1) * 2 = ap (λ i. 2 ^ i) (omega arith) ∙ pow-suc 2 (d + 1) in
       omega arith
 
-  pub few-visits : {v : ℕ} {p : Place} → Walked k q v begun p → v ≤ 2 ^ (q .size + 1) - 1
+  pub few-visits : {v : ℕ} {p : Place} → Walked k q v begun p → v ≤ 2 ^ (size + 1) - 1
   unfolding later
-  few-visits w = let e = below-power (q .size) in walk-few (2 ^ (q .size + 1) - 1) w (q .size, omega arith, omega arith)
+  few-visits w = let e = below-power (size) in walk-few (2 ^ (size + 1) - 1) w (size, omega arith, omega arith)
 
 -- ---- the search's condition
 

@@ -3,7 +3,7 @@
 --     Ledger W              a slot for each row of the table; and, while a search has the book, that search
 --     openRefusal d p n     the first refusal of an open of d devices and p points with n rows lent
 --     opened s              the ledger after an open that is not refused
---     admitted l c          the compiler admits the call: a search has the book, or none does
+--     admitted l c          the compiler admits the call: write, erase, read and start need the book, the others the search
 --     refusal k s l c n     the first refusal of the call c with n rows lent, in checking order
 --     Done k s l c a l′     a call that is not refused answers a and leaves l′
 --     Told k s l c a l′     any call answers a and leaves l′

@@ -60,7 +60,6 @@ revoked ds n i = isRevoke (choiceOf ds n i)
 
 abbrev pub ringQuestion : {W : Type 0} → Kind W → Shape → List (Slot W) → List ℕ → Question W
 ringQuestion k s xs ds = record {
-  size = length ds;
   weight = λ n. weightOf k (revoked ds n) xs;
   Hopeless = λ n. Ring (rightsIn s (only (kept ds n) xs));
   Solved = λ n. Ring (rightsIn s (without (revoked ds n) xs)) → ⊥;

@@ -2,11 +2,13 @@
 --     EndsWithin k s xs ds m   the walk over the grants ds of the slots xs makes at most m visits, goes on while a node is left, and ends with a best plan
 --     WalksEnd k               every walk ends within 2^(n+1) − 1 visits, where n grants are to decide
 --     Settles k                the search's condition follows from the one before it, the test that settled the visit, and whether a keep is left to turn
---     MarksStand               a row's first mark is the choice of the node to be visited next for it, undecided where it has none, blank where the row is not to decide
+--     MarksStand k             at every place of a walk, the first mark of a row to decide is the choice in the node to be visited next,
+--                              undecided where that has none or no node is left, and rows that are not to decide are blank
 --     OpensFit                 an open is refused 3 exactly if its size is out of range, else 4 exactly if rows are missing; else there is a table of that size
 --     RunsObey k               every run obeys the law
 --     RunsAreTold k            every list of calls has one run, and it is the one that computes
 use mathlib.Core.Path.{_≡_}
+use mathlib.Core.Bool.{false}
 use mathlib.Core.List.{List, [], _∷_, _++_}
 use mathlib.Core.Logic.{_⊎_}
 use Prim.Native.Nat.{ℕ, _+_, _-_, _*_, _^_, _≤_, _<_}
@@ -25,7 +27,7 @@ use Rattle.planner.specs.declared.calls.Answer.{Answer}
 use Rattle.planner.specs.declared.walk.Outcome.{Outcome}
 use Rattle.planner.specs.Grants.{Slot}
 use Rattle.planner.specs.Walk.{Decision, keep, Node, Question, Place, at, begun, Visit, Walked, condition, settled, hasKeep}
-use Rattle.planner.specs.Search.{Rising, Decides, markOf, firstMark, ringQuestion}
+use Rattle.planner.specs.Search.{Rising, Decides, markOf, choicesOf, firstMark, secondMark, ringQuestion}
 use Rattle.planner.specs.Ledger.{Ledger, openRefusal, opened, Run}
 use Rattle.planner.specs.Law.{Law}
 use Rattle.planner.specs.Computed.{run}
@@ -48,14 +50,13 @@ abbrev pub inOrder : Node → List Decision
 inOrder [] = []
 inOrder (c ∷ n) = inOrder n ++ (c ∷ [])
 
-pub record Marked (ds : List ℕ) (next : Option Node) (choices : List Decision) : Type 0 where
-  pub chosen : (j : ℕ) → j < length choices → firstMark ds next (getD ds j 0) ≡ markOf (getD choices j keep)
-  pub undecided : (j : ℕ) → length choices ≤ j → j < length ds → firstMark ds next (getD ds j 0) ≡ Undecided
-  pub blank : (i : ℕ) → (In i ds → ⊥) → firstMark ds next i ≡ Blank
+pub record Marked (ds : List ℕ) (p : Place) (choices : List Decision) : Type 0 where
+  pub chosen : (j : ℕ) → j < length choices → firstMark ds (p .next) (getD ds j 0) ≡ markOf (getD choices j keep)
+  pub undecided : (j : ℕ) → length choices ≤ j → j < length ds → firstMark ds (p .next) (getD ds j 0) ≡ Undecided
+  pub blank : (i : ℕ) → (In i ds → ⊥) → (firstMark ds (p .next) i ≡ Blank) × (secondMark ds (p .best) i ≡ false)
 
-pub record MarksStand : Type 0 where
-  pub visiting : (ds : List ℕ) (n : Node) → Rising ds → length n ≤ length ds → Marked ds (Some n) (inOrder n)
-  pub ended : (ds : List ℕ) → Marked ds None []
+abbrev pub MarksStand : {W : Type 0} → Kind W → Type 0
+MarksStand {W} k = (s : Shape) (xs : List (Slot W)) (ds : List ℕ) (v : ℕ) (p : Place) → Decides s xs ds → Walked k (ringQuestion k s xs ds) v begun p → Marked ds p (inOrder (choicesOf (p .next)))
 
 pub record OpenFits (devices points lent : ℕ) : Type 0 where
   pub size : openRefusal devices points lent ≡ Some WrongSize → InRange devices × InRange points → ⊥

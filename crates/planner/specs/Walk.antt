@@ -1,6 +1,6 @@
 -- The walk over a question: which of some grants to keep and which to revoke.
 --     Node                  the choices for the first of the grants to decide, the newest first
---     Question W            how many grants are to decide, what a node's revoked grants weigh, and the tests on its choices
+--     Question W            what a node's revoked grants weigh, and two tests on its choices
 --     NoLess k q b n        a best plan is known, and the node's revoked grants do not weigh less
 --     after n               the node to be visited once all below n is done: the trailing revokes go, and the last keep turns
 --     Place                 the node to be visited next, and the best plan so far
@@ -29,7 +29,6 @@ abbrev pub Node : Type 0
 Node = List Decision
 
 pub record Question (W : Type 0) : Type 1 where
-  pub size : ℕ
   pub weight : Node → W
   -- the grants that the node keeps make it hopeless, whatever is chosen for the others
   pub Hopeless : Node → Type 0

@@ -19,9 +19,9 @@ pub fn conditions_settle<W: Weight>()
     ensures follows { λ _. ⌜ Settles (W·Weight .meaning) ⌝ }
 {}
 
-// The first mark of each row, at every place of the walk and after its end.
-pub fn marks_stand()
-    ensures marks { λ _. ⌜ MarksStand ⌝ }
+// The marks of each row, at every place of a walk and after its end.
+pub fn marks_stand<W: Weight>()
+    ensures marks { λ _. ⌜ MarksStand (W·Weight .meaning) ⌝ }
 {}
 
 // When an open is refused, and with which number.

@@ -2,4 +2,4 @@ use Rattle.planner.proofs.theorems.marks_stand.Needs as need
 use Rattle.planner.proofs.MarkLaws.{marks-stand}
 
 pub returns : need.returns
-returns c = record { marks = marks-stand }
+returns g c = record { marks = marks-stand (g .W·Weight .meaning) (g .W·Weight·met .lawful) }
