@@ -4,18 +4,15 @@ use mathlib.Core.Bool.{Bool, true, false, cond, not}
 use mathlib.Core.List.{List, [], _∷_, map}
 use Prim.Native.Nat.{ℕ, zero, suc, _+_, _^_, _≤_, _<_}
 use native.Mathlib.Omega.{arith}
-use native.Mathlib.Nat.{not-suc-le-zero, zero-add, suc-add}
+use native.Mathlib.Nat.{not-suc-le-zero}
 use lib.Dec.{T}
 use lib.ListN.{length}
 use lib.Pow.{pow-pos}
 use Rattle.std.specs.declared.option.Option.{Option}
 use Rattle.std.specs.declared.option.Option.the-variants.{Some, None}
 use Rattle.mesh.specs.declared.refusal.Refusal.{Refusal}
-use Rattle.mesh.specs.declared.refusal.Refusal.the-variants.{ShortMemory, NotEnded}
-use Rattle.mesh.specs.declared.right.Right.{Right}
 use Rattle.mesh.specs.declared.shape.Shape.{Shape}
 use Rattle.mesh.specs.Kind.{Kind, Lawful}
-use Rattle.flow.specs.Flow.{Ring, placed}
 use Rattle.planner.specs.declared.walk.Outcome.{Outcome}
 use Rattle.planner.specs.declared.walk.Outcome.the-variants as by
 use Rattle.planner.specs.declared.calls.Call.{Call}
@@ -26,13 +23,13 @@ use Rattle.planner.specs.declared.calls.Answer.the-variants as says
 use Rattle.planner.specs.Grants.{Slot, rightIn, without, only}
 use Rattle.planner.specs.Walk.{Node, Question, NoLess, Place, at, begun, Visit, no-less, ring-kept, best-plan, open-node, Walked, stay, visit, Advanced}
 use Rattle.planner.specs.Search.{kept, revoked, ringQuestion}
-use Rattle.planner.specs.Ledger.{Search, Ledger, book, searching, first, nodeLeft, tooFew, refusal, admitted, opened, asks, started, moved, plan, Done, write, erase, read, start, advance, take, abandon, Told, misuse, refused, done, Run, none, then}
-use Rattle.planner.specs.FlowTests.{hasRing, toDecide}
+use Rattle.planner.specs.Ledger.{Search, Ledger, book, searching, nodeLeft, tooFew, refusal, admitted, opened, asks, started, moved, plan, Done, write, erase, read, start, advance, take, abandon, Told, misuse, refused, done, Run, none, then}
+use Rattle.planner.specs.FlowTests.{toDecide}
 use Rattle.planner.specs.Theorems.{WalksEnd}
 use Rattle.planner.proofs.QuestionLaws.{few, planned}
 use Rattle.planner.proofs.TestLaws.{clash}
 use Rattle.planner.proofs.RingLaws.{has-ring, to-decide, decides-unique}
-use Rattle.planner.proofs.LedgerLaws.{Searching, Sound, told-sound, opened-sound, walk-ended}
+use Rattle.planner.proofs.LedgerLaws.{Sound, told-sound, opened-sound, walk-ended}
 use Rattle.planner.specs.Computed.{Tests, ringTests, isNoLess, outcomeOf, leads, walks, makes, tell, run}
 
 -- ---- the walk

@@ -1,21 +1,17 @@
 -- Sets of grants: what removal leaves, what a part of a set weighs, and how many grants stand.
-use mathlib.Core.Path.{_≡_, refl, sym, ap, _∙_, subst}
-use mathlib.Core.Bool.{Bool, true, false, cond, not, _&&_}
+use mathlib.Core.Path.{_≡_, refl, ap}
+use mathlib.Core.Bool.{Bool, true, false, cond}
 use mathlib.Core.List.{List, [], _∷_, _++_, map}
-use mathlib.Core.Logic.{_⊎_, inl, inr}
-use Prim.Native.Nat.{ℕ, zero, suc, _+_, _≤_, _<_}
+use Prim.Native.Nat.{ℕ, zero, suc, _+_, _<_}
 use native.Mathlib.Omega.{arith}
 use native.Mathlib.Nat.{not-suc-le-zero, le-of-suc-le-suc}
-use lib.Dec.{T, ltb}
+use lib.Dec.{T}
 use lib.ListN.{length, getD, set}
-use Rattle.std.specs.declared.option.Option.{Option}
 use Rattle.std.specs.declared.option.Option.the-variants.{Some, None}
 use Rattle.mesh.specs.declared.right.Right.{Right}
 use Rattle.mesh.specs.declared.right.Right.the-variants.{Empty}
-use Rattle.mesh.specs.declared.shape.Shape.{Shape}
 use Rattle.mesh.specs.Kind.{Kind, Lawful}
-use Rattle.mesh.specs.Table.{rowOf}
-use Rattle.planner.specs.Grants.{Grant, Slot, RowSet, rightIn, rightsIn, beyond, without, only, grantsIn, chosen, joined, weightOf, numberOf, standing}
+use Rattle.planner.specs.Grants.{Slot, RowSet, rightIn, beyond, without, grantsIn, chosen, joined, weightOf, numberOf, standing}
 
 -- ---- removal
 

@@ -1,21 +1,19 @@
 -- The marks of a place of the walk, and what an open wants.
-use mathlib.Core.Path.{_≡_, refl, sym, ap, ap₂, _∙_, subst}
-use mathlib.Core.Bool.{Bool, true, false, cond, not, _&&_, _||_}
+use mathlib.Core.Path.{_≡_, refl, sym, ap, ap₂, _∙_}
+use mathlib.Core.Bool.{Bool, true, false, cond, not, _&&_}
 use mathlib.Core.List.{List, [], _∷_, _++_}
 use mathlib.Core.Logic.{_⊎_, inl, inr}
-use Prim.Native.Nat.{ℕ, zero, suc, _+_, _*_, _≤_, _<_}
+use Prim.Native.Nat.{ℕ, zero, suc, _*_, _≤_, _<_}
 use native.Mathlib.Omega.{arith}
 use native.Mathlib.Nat.{not-suc-le-zero, le-of-suc-le-suc}
-use borrow.Author.Tests.{eqb-true, eqb-false, eq-eqb, ne-eqb}
-use lib.Dec.{T, eqb, ltb, leb}
+use borrow.Author.Tests.{eq-eqb, ne-eqb}
+use lib.Dec.{ltb, leb}
 use lib.ListN.{length, getD}
 use Rattle.std.proofs.shelf.Lists.{length-append, getD-append-left, getD-at}
 use Rattle.std.proofs.shelf.Tests.{true≢false, cases-lt, and-parts, ltb-true, ltb-false, leb-true, le-leb}
 use Rattle.std.specs.declared.option.Option.{Option}
-use Rattle.std.specs.declared.option.Option.the-variants.{Some, None}
 use Rattle.mesh.specs.declared.refusal.Refusal.{Refusal}
 use Rattle.mesh.specs.declared.refusal.Refusal.the-variants.{WrongSize, ShortMemory}
-use Rattle.mesh.specs.declared.row.Choice.{Choice}
 use Rattle.mesh.specs.declared.row.Choice.the-variants.{Blank, Undecided}
 use Rattle.mesh.specs.Kind.{Kind, Lawful}
 use Rattle.mesh.specs.Table.{InRange}
@@ -23,7 +21,7 @@ use Rattle.flow.specs.Flow.{In}
 use Rattle.planner.specs.Walk.{Decision, keep, Node}
 use Rattle.planner.specs.Search.{Rising, markOf, choiceOf, isIn, choicesOf, firstMark, secondMark}
 use Rattle.planner.specs.Ledger.{first, inRange, openRefusal}
-use Rattle.planner.specs.Theorems.{inOrder, Marked, MarksStand, OpenFits, OpensFit}
+use Rattle.planner.specs.Theorems.{inOrder, MarksStand, OpenFits, OpensFit}
 use Rattle.planner.proofs.TestLaws.{in-test, test-in, clash, is-true, is-false}
 use Rattle.planner.proofs.QuestionLaws.{at-in, next-fits, held-in}
 

@@ -2,8 +2,8 @@
 use mathlib.Core.Path.{_≡_, refl, sym, subst}
 use mathlib.Core.Bool.{Bool, true, false, not, _&&_, _||_}
 use mathlib.Core.List.{List, [], _∷_}
-use mathlib.Core.Logic.{_⊎_, inl, inr}
-use Prim.Native.Nat.{ℕ, suc, _<_}
+use mathlib.Core.Logic.{inl, inr}
+use Prim.Native.Nat.{ℕ, suc}
 use lib.Dec.{T, eqb, ltb, leb→le}
 use lib.ListN.{length, take, getD}
 use Rattle.std.proofs.shelf.Tests.{lt-ltb}
@@ -13,7 +13,7 @@ use Rattle.flow.specs.Flow.{Rights, placed, Source, In, Different}
 use Rattle.flow.specs.Order.{Ready, Lowest, FlowOrder}
 use Rattle.planner.specs.Search.{isIn}
 use Rattle.planner.specs.FlowTests.{isSource, allBelow, allDifferent, isReady, isLowest, isOrder}
-use Rattle.planner.proofs.TestLaws.{both, parts, by-first, by-second, either, test-equal, all-below, below-all, in-test, test-in, test-not, not-test}
+use Rattle.planner.proofs.TestLaws.{both, parts, either, test-equal, all-below, below-all, in-test, test-in, test-not, not-test}
 use Rattle.planner.proofs.RingLaws.{is-source, source-is, placed-inside}
 
 different : (xs : List ℕ) → T (allDifferent xs) → Different xs

@@ -6,7 +6,7 @@ use mathlib.Core.Logic.{_⊎_, inl, inr}
 use Prim.Native.Nat.{ℕ, zero, suc, _+_, _-_, _^_, _≤_, _<_}
 use native.Mathlib.Omega.{arith}
 use native.Mathlib.Nat.{not-suc-le-zero, le-of-suc-le-suc}
-use borrow.Author.Tests.{eqb-true, eqb-false, eq-eqb}
+use borrow.Author.Tests.{eqb-true, eqb-false}
 use lib.Dec.{T, ltb, eqb}
 use lib.ListN.{length, getD}
 use Rattle.std.proofs.shelf.Tests.{cases-lt}
@@ -14,7 +14,6 @@ use Rattle.std.specs.declared.option.Option.{Option}
 use Rattle.std.specs.declared.option.Option.the-variants.{Some, None}
 use Rattle.mesh.specs.declared.right.Right.{Right}
 use Rattle.mesh.specs.declared.right.Right.the-variants.{Empty}
-use Rattle.mesh.specs.declared.row.Choice.the-variants.{Keep, Revoke}
 use Rattle.mesh.specs.declared.shape.Shape.{Shape}
 use Rattle.mesh.specs.Kind.{Kind, Lawful}
 use Rattle.mesh.specs.Rights.{canRead, canWrite}
@@ -24,6 +23,7 @@ use Rattle.planner.specs.Grants.{Slot, RowSet, rightsIn, without, only, weight
 use Rattle.planner.specs.Walk.{Decision, Node, keep, revoke, Place, begun, Walked}
 use Rattle.planner.specs.Search.{Decides, markOf, choiceOf, isKeep, isRevoke, kept, revoked, choicesOf, secondMark, ringQuestion}
 use Rattle.planner.specs.Ledger.{isVacant}
+use Rattle.planner.proofs.TestLaws.{holds, fails, is-true}
 use Rattle.planner.proofs.GrantLaws.{rowRight, row-without, part-weighs}
 use Rattle.planner.proofs.WalkLaws.{revoking, Extends, Answers, Matched, ended-cheapest, Fits, Good, place-good, few-visits}
 
@@ -51,20 +51,6 @@ some-step g a [] b c = (b, c)
 some-step g a (x ∷ xs) b c = (x, c .0)
 
 -- ---- rights after a removal
-
-true-or-false : (b : Bool) → (b ≡ true) ⊎ (b ≡ false)
-true-or-false true = inl refl
-true-or-false false = inr refl
-
-holds : (b : Bool) → b ≡ true → T b
-holds b e = subst T (sym e) tt
-
-fails : (b : Bool) → b ≡ false → T b → ⊥
-fails b e h = subst T e h
-
-is-true : (b : Bool) → T b → b ≡ true
-is-true true h = refl
-is-true false h = absurd h
 
 module _ {W : Type 0} (s : Shape) (xs : List (Slot W)) where
   abbrev all : Rights

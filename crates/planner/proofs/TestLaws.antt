@@ -12,6 +12,20 @@ use Rattle.flow.specs.Flow.{In}
 use Rattle.planner.specs.Search.{isIn}
 use Rattle.planner.specs.FlowTests.{anyBelow, allBelow}
 
+pub holds : (b : Bool) → b ≡ true → T b
+holds b e = subst T (sym e) tt
+
+pub fails : (b : Bool) → b ≡ false → T b → ⊥
+fails b e h = subst T e h
+
+pub is-true : (b : Bool) → T b → b ≡ true
+is-true true h = refl
+is-true false h = absurd h
+
+pub is-false : (b : Bool) → (T b → ⊥) → b ≡ false
+is-false true n = absurd (n tt)
+is-false false n = refl
+
 pub both : (x y : Bool) → T x → T y → T (x && y)
 both true y p q = q
 both false y p q = absurd p
@@ -36,11 +50,7 @@ pub equal-test : (a b : ℕ) → a ≡ b → T (eqb a b)
 equal-test a b e = subst T (sym (eq-eqb a b e)) tt
 
 pub test-equal : (a b : ℕ) → T (eqb a b) → a ≡ b
-test-equal a b t = eqb-true a b (holds (eqb a b) t)
-  where
-    holds : (x : Bool) → T x → x ≡ true
-    holds true p = refl
-    holds false p = absurd p
+test-equal a b t = eqb-true a b (is-true (eqb a b) t)
 
 pub apart-test : (a b : ℕ) → (a ≡ b → ⊥) → T (not (eqb a b))
 apart-test a b ne = subst (λ x. T (not x)) (sym (ne-eqb a b ne)) tt
@@ -90,14 +100,6 @@ test-not false n = tt
 pub not-test : (b : Bool) → T (not b) → T b → ⊥
 not-test true n h = n
 not-test false n h = h
-
-pub is-true : (b : Bool) → T b → b ≡ true
-is-true true h = refl
-is-true false h = absurd h
-
-pub is-false : (b : Bool) → (T b → ⊥) → b ≡ false
-is-false true n = absurd (n tt)
-is-false false n = refl
 
 -- from equations that cannot be, `cc` has this one
 pub clash : _≡_ {A = ℕ} 0 1 → ⊥

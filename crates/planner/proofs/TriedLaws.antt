@@ -1,5 +1,5 @@
 -- The tried tables: what their runs compute, compared once, is what they must give.
-use mathlib.Core.Path.{_≡_, refl, sym, ap, subst, _∙_}
+use mathlib.Core.Path.{_≡_, refl, sym, ap, subst}
 use mathlib.Core.Bool.{Bool, true}
 use mathlib.Core.List.{List, [], _∷_, map}
 use lib.Dec.{T}
@@ -13,7 +13,7 @@ use Rattle.planner.specs.Ledger.{Ledger, book, opened, Run}
 use Rattle.planner.specs.FlowTests.{isOrder}
 use Rattle.planner.specs.Computed.{run}
 use Rattle.planner.specs.Theorems.{RunsAreTold}
-use Rattle.planner.specs.Tried.{Trial, callsOf, answersOf, leftOf, Holds, All, sumTrials, peakTrials, AmountsHold, Tried}
+use Rattle.planner.specs.Tried.{Trial, callsOf, answersOf, leftOf, Holds, All, sumTrials, peakTrials, Tried}
 use Rattle.planner.proofs.OrderTestLaws.{is-order}
 
 -- answers, last ledger, and whether the order is one

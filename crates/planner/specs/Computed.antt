@@ -4,7 +4,7 @@
 --     walks k q t b p        the visits made within the budget b, and where they lead
 --     tell k s l c           the answer to a call, and the ledger that it leaves
 --     run k s l cs           the answers to a list of calls, and the last ledger
-use mathlib.Core.Bool.{Bool, true, false, cond, not}
+use mathlib.Core.Bool.{Bool, false, cond, not}
 use mathlib.Core.List.{List, [], _∷_}
 use Prim.Native.Nat.{ℕ, zero, suc, _+_}
 use lib.ListN.{set}

@@ -26,8 +26,8 @@ use Rattle.planner.specs.declared.calls.Lent.{Lent}
 use Rattle.planner.specs.declared.calls.Answer.{Answer}
 use Rattle.planner.specs.declared.walk.Outcome.{Outcome}
 use Rattle.planner.specs.Grants.{Slot}
-use Rattle.planner.specs.Walk.{Decision, keep, Node, Question, Place, at, begun, Visit, Walked, condition, settled, hasKeep}
-use Rattle.planner.specs.Search.{Rising, Decides, markOf, choicesOf, firstMark, secondMark, ringQuestion}
+use Rattle.planner.specs.Walk.{Decision, keep, Node, Place, at, begun, Visit, Walked, condition, settled, hasKeep}
+use Rattle.planner.specs.Search.{Decides, markOf, choicesOf, firstMark, secondMark, ringQuestion}
 use Rattle.planner.specs.Ledger.{Ledger, openRefusal, opened, Run}
 use Rattle.planner.specs.Law.{Law}
 use Rattle.planner.specs.Computed.{run}

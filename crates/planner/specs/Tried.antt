@@ -3,11 +3,10 @@
 --     Holds k t      under the kind k the calls of t are told the answers that t says, and leave what it says in the order that it says
 --     AmountsHold k  of the amounts 1, 1,000,000, 0 and 1,000,001 the first two are taken and the others get 10
 --     Tried          all of them
-use mathlib.Core.Path.{_≡_}
 use mathlib.Core.Bool.{true}
 use mathlib.Core.List.{List, [], _∷_, _++_, map}
 use Prim.Native.Nat.{ℕ}
-use lib.Dec.{T, ltb, leb, leb→le}
+use lib.Dec.{T, leb, leb→le}
 use lib.ListN.{length, set, replicate}
 use Rattle.std.specs.declared.option.Option.the-variants.{Some, None}
 use Rattle.mesh.specs.declared.refusal.Refusal.the-variants.{WrongAmount}
@@ -28,7 +27,7 @@ use Rattle.planner.specs.declared.calls.Answer.{Answer}
 use Rattle.planner.specs.declared.calls.Answer.the-variants as says
 use Rattle.planner.specs.Grants.{Slot, rightsIn, without}
 use Rattle.planner.specs.Search.{isIn}
-use Rattle.planner.specs.Ledger.{Ledger, book, opened, Run}
+use Rattle.planner.specs.Ledger.{book, opened, Run}
 
 pub record Entry : Type 0 where
   pub device : ℕ

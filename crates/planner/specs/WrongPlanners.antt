@@ -19,7 +19,7 @@ use Rattle.planner.specs.Grants.{Slot, RowSet, rightsIn, without, chosen, join
 use Rattle.planner.specs.Search.{isIn}
 use Rattle.planner.specs.Ledger.{Search, Ledger, searching, started, Told}
 use Rattle.planner.specs.Law.{Cheapest, Law}
-use Rattle.planner.specs.Tried.{Entry, Trial, two-by-two, firstTrial, filled, callsOf, answersOf}
+use Rattle.planner.specs.Tried.{two-by-two, firstTrial, filled, callsOf, answersOf}
 
 abbrev pub level : {W : Type 0} → Kind W → Kind W
 level k = record {
