@@ -23,14 +23,14 @@ use Rattle.planner.specs.declared.calls.Answer.the-variants as says
 use Rattle.planner.specs.Grants.{Slot, rightIn, without, only}
 use Rattle.planner.specs.Walk.{Node, Question, NoLess, Place, at, begun, Visit, no-less, ring-kept, best-plan, open-node, Walked, stay, visit, Advanced}
 use Rattle.planner.specs.Search.{kept, revoked, ringQuestion}
-use Rattle.planner.specs.Ledger.{Search, Ledger, book, searching, nodeLeft, tooFew, refusal, admitted, opened, asks, started, moved, plan, Done, write, erase, read, start, advance, take, abandon, Told, misuse, refused, done, Run, none, then}
+use Rattle.planner.specs.Ledger.{Ledger, book, searching, tooFew, refusal, admitted, opened, asks, started, plan, Done, write, erase, read, start, advance, take, abandon, Told, misuse, refused, done, Run, none, then}
 use Rattle.planner.specs.FlowTests.{toDecide}
 use Rattle.planner.specs.Theorems.{WalksEnd}
 use Rattle.planner.proofs.QuestionLaws.{few, planned}
 use Rattle.planner.proofs.TestLaws.{clash}
 use Rattle.planner.proofs.RingLaws.{has-ring, to-decide, decides-unique}
 use Rattle.planner.proofs.LedgerLaws.{Sound, told-sound, opened-sound, walk-ended}
-use Rattle.planner.specs.Computed.{Tests, ringTests, isNoLess, outcomeOf, leads, walks, makes, tell, run}
+use Rattle.planner.specs.Computed.{Tests, ringTests, isNoLess, outcomeOf, leads, walks, moves, takes, makes, replies, tell, run}
 
 -- ---- the walk
 
@@ -126,18 +126,6 @@ module _ {W : Type 0} (k : Kind W) (q : Question W) (t : Tests)
 
 -- ---- the ledger
 
--- what tell makes of an admission and a refusal
-abbrev settle : {W : Type 0} → Kind W → Shape → Ledger W → Call → Bool → Option Refusal → Answer W × Ledger W
-settle k s l c x r = cond x (elim r [ Some why ↦ (says.Refused why, l) | None ↦ makes k s l c ]) (says.Misuse, l)
-
--- what an advance to v visits and the place p makes
-abbrev moves : {W : Type 0} → List (Slot W) → Search W → ℕ → Place → Answer W × Ledger W
-moves xs q v p = (says.Advanced (record { visits = v; ended = not (nodeLeft p) }), searching xs (moved q v p))
-
--- what a take makes of the best plan
-abbrev taken : {W : Type 0} → Kind W → List (Slot W) → Search W → Option Node → Answer W × Ledger W
-taken k xs q b = elim b [ Some n ↦ (plan k q n, book (without (revoked (q .rows) n) xs)) | None ↦ (says.Misuse, searching xs q) ]
-
 not-answers : {P : Type 0} (b : Bool) → Answers b P → Answers (not b) (P → ⊥)
 not-answers true d = ((λ h. absurd h), λ n. n (d .0 tt))
 not-answers false d = ((λ h p. d .1 p), λ n. tt)
@@ -190,7 +178,7 @@ module _ {W : Type 0} (k : Kind W) (law : Lawful k) (s : Shape) where
   done-computed (searching xs q) call.Take n h e f =
       let ended = walk-ended (q .place .next) (q .place .best) (tooFew s n) f in
       let best = planned k law s (q .slots) (q .rows) (h .decides) (q .place) (h .walked) ended .1 in
-      subst (λ b. Done k s (searching xs q) call.Take (taken k xs q b .0) (taken k xs q b .1)) (sym best) (take best)
+      subst (λ b. Done k s (searching xs q) call.Take (takes k xs q b .0) (takes k xs q b .1)) (sym best) (take best)
   done-computed (searching xs q) call.Abandon n h e f = abandon
   -- calls that are not admitted
   done-computed (book xs) (call.Advance b) n h e f = absurd (clash (cc))
@@ -205,7 +193,7 @@ module _ {W : Type 0} (k : Kind W) (law : Lawful k) (s : Shape) where
   tell-computed l c h = go (admitted l (c .call)) refl (refusal k s l (c .call) (c .rows)) refl
     where
       go : (x : Bool) → admitted l (c .call) ≡ x → (r : Option Refusal) → refusal k s l (c .call) (c .rows) ≡ r
-          → Told k s l c (settle k s l (c .call) x r .0) (settle k s l (c .call) x r .1)
+          → Told k s l c (replies k s l (c .call) x r .0) (replies k s l (c .call) x r .1)
       go false e r f = misuse e
       go true e (Some why) f = refused e f
       go true e None f = done e f (done-computed l (c .call) (c .rows) h e f)
@@ -218,11 +206,11 @@ module _ {W : Type 0} (k : Kind W) (law : Lawful k) (s : Shape) where
   makes-told h (advance {xs = xs} {q = q} {p = p} m) =
       let told = advance-told k (asks k s q) (ringTests s (q .slots) (q .rows)) (hopeless-answers k s (q .slots) (q .rows)) (solved-answers k s (q .slots) (q .rows)) m in
       ap (λ v. moves xs q v p) (told .0) ∙ ap (moves xs q _) (told .1)
-  makes-told h (take {xs = xs} {q = q} e) = ap (taken k xs q) (sym e)
+  makes-told h (take {xs = xs} {q = q} e) = ap (takes k xs q) (sym e)
   makes-told h abandon = refl
 
-  tell-is : (l : Ledger W) (c : Lent) (x : Bool) (r : Option Refusal) → admitted l (c .call) ≡ x → refusal k s l (c .call) (c .rows) ≡ r → settle k s l (c .call) x r ≡ tell k s l c
-  tell-is l c x r e f = ap (λ y. settle k s l (c .call) y r) (sym e) ∙ ap (settle k s l (c .call) (admitted l (c .call))) (sym f)
+  tell-is : (l : Ledger W) (c : Lent) (x : Bool) (r : Option Refusal) → admitted l (c .call) ≡ x → refusal k s l (c .call) (c .rows) ≡ r → replies k s l (c .call) x r ≡ tell k s l c
+  tell-is l c x r e f = ap (λ y. replies k s l (c .call) y r) (sym e) ∙ ap (replies k s l (c .call) (admitted l (c .call))) (sym f)
 
   pub told-computed : {l l′ : Ledger W} {c : Lent} {a : Answer W} → Sound k s l → Told k s l c a l′ → (a ≡ tell k s l c .0) × (l′ ≡ tell k s l c .1)
   told-computed {l} {c = c} h t = let e = go t in (ap (λ x. x .0) e, ap (λ x. x .1) e)

@@ -4,12 +4,13 @@
 --     walks k q t b p        the visits made within the budget b, and where they lead
 --     tell k s l c           the answer to a call, and the ledger that it leaves
 --     run k s l cs           the answers to a list of calls, and the last ledger
-use mathlib.Core.Bool.{Bool, false, cond, not}
+use mathlib.Core.Bool.{Bool, true, false, cond, not}
 use mathlib.Core.List.{List, [], _∷_}
 use Prim.Native.Nat.{ℕ, zero, suc, _+_}
 use lib.ListN.{set}
 use Rattle.std.specs.declared.option.Option.{Option}
 use Rattle.std.specs.declared.option.Option.the-variants.{Some, None}
+use Rattle.mesh.specs.declared.refusal.Refusal.{Refusal}
 use Rattle.mesh.specs.declared.shape.Shape.{Shape}
 use Rattle.mesh.specs.Kind.{Kind}
 use Rattle.mesh.specs.Table.{rowOf}
@@ -57,11 +58,14 @@ walks k q t (suc budget) (Some n) b =
     let w = walks k q t budget (p .next) (p .best) in
     (suc (w .0), w .1)
 
--- the search q after an advance
-abbrev pub advanced : {W : Type 0} → Kind W → Shape → Search W → ℕ → Search W
-advanced k s q b =
-    let w = walks k (asks k s q) (ringTests s (q .slots) (q .rows)) b (q .place .next) (q .place .best) in
-    moved q (q .visits + w .0) (w .1)
+-- an advance to v visits and the place p
+abbrev pub moves : {W : Type 0} → List (Slot W) → Search W → ℕ → Place → Answer W × Ledger W
+moves xs q v p = (says.Advanced (record { visits = v; ended = not (nodeLeft p) }), searching xs (moved q v p))
+
+-- a take of the best plan, which an ended walk has
+abbrev pub takes : {W : Type 0} → Kind W → List (Slot W) → Search W → Option Node → Answer W × Ledger W
+takes k xs q None = (says.Misuse, searching xs q)
+takes k xs q (Some n) = (plan k q n, book (without (revoked (q .rows) n) xs))
 
 -- calls that are admitted and not refused
 abbrev pub makesOnBook : {W : Type 0} → Kind W → Shape → List (Slot W) → Call → Answer W × Ledger W
@@ -79,17 +83,23 @@ makesOnSearch k s xs q (call.Erase d p) = (says.Misuse, searching xs q)
 makesOnSearch k s xs q (call.Read d p) = (says.Misuse, searching xs q)
 makesOnSearch k s xs q call.Start = (says.Misuse, searching xs q)
 makesOnSearch k s xs q (call.Advance b) =
-    let m = advanced k s q b in
-    (says.Advanced (record { visits = m .visits; ended = not (nodeLeft (m .place)) }), searching xs m)
-makesOnSearch k s xs q call.Take = elim (q .place .best) [ Some n ↦ (plan k q n, book (without (revoked (q .rows) n) xs)) | None ↦ (says.Misuse, searching xs q) ]
+    let w = walks k (asks k s q) (ringTests s (q .slots) (q .rows)) b (q .place .next) (q .place .best) in
+    moves xs q (q .visits + w .0) (w .1)
+makesOnSearch k s xs q call.Take = takes k xs q (q .place .best)
 makesOnSearch k s xs q call.Abandon = (says.Abandoned, book xs)
 
 abbrev pub makes : {W : Type 0} → Kind W → Shape → Ledger W → Call → Answer W × Ledger W
 makes k s (book xs) c = makesOnBook k s xs c
 makes k s (searching xs q) c = makesOnSearch k s xs q c
 
+-- what a call is told, by whether it is admitted and whether it is refused
+abbrev pub replies : {W : Type 0} → Kind W → Shape → Ledger W → Call → Bool → Option Refusal → Answer W × Ledger W
+replies k s l c false why = (says.Misuse, l)
+replies k s l c true (Some why) = (says.Refused why, l)
+replies k s l c true None = makes k s l c
+
 abbrev pub tell : {W : Type 0} → Kind W → Shape → Ledger W → Lent → Answer W × Ledger W
-tell k s l c = cond (admitted l (c .call)) (elim (refusal k s l (c .call) (c .rows)) [ Some why ↦ (says.Refused why, l) | None ↦ makes k s l (c .call) ]) (says.Misuse, l)
+tell k s l c = replies k s l (c .call) (admitted l (c .call)) (refusal k s l (c .call) (c .rows))
 
 abbrev pub run : {W : Type 0} → Kind W → Shape → Ledger W → List Lent → List (Answer W) × Ledger W
 run k s l [] = ([], l)
