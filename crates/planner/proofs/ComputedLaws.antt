@@ -21,7 +21,7 @@ use Rattle.planner.specs.declared.calls.Lent.{Lent}
 use Rattle.planner.specs.declared.calls.Answer.{Answer}
 use Rattle.planner.specs.declared.calls.Answer.the-variants as says
 use Rattle.planner.specs.Grants.{Slot, rightIn, without, only}
-use Rattle.planner.specs.Walk.{Node, Question, NoLess, Place, at, begun, Visit, no-less, ring-kept, best-plan, open-node, Walked, stay, visit, Advanced}
+use Rattle.planner.specs.Walk.{Node, Question, NoLess, Place, at, begun, Visit, no-less, hopeless-node, best-plan, open-node, Walked, stay, visit, Advanced}
 use Rattle.planner.specs.Search.{kept, revoked, ringQuestion}
 use Rattle.planner.specs.Ledger.{Ledger, book, searching, tooFew, refusal, admitted, opened, asks, started, plan, Done, write, erase, read, start, advance, take, abandon, Told, misuse, refused, done, Run, none, then}
 use Rattle.planner.specs.FlowTests.{toDecide}
@@ -68,9 +68,9 @@ module _ {W : Type 0} (k : Kind W) (q : Question W) (t : Tests)
       less = fails _ (no-less-answers k q b n)
 
       go : (x : Bool) → isNoLess k q b n ≡ x → (y : Bool) → t .hopeless n ≡ y → (z : Bool) → t .solved n ≡ z
-          → let o = cond x by.NoLess (cond y by.RingKept (cond z by.BestPlan by.Opened)) in Visit k q n b o (leads o n b)
+          → let o = cond x by.NoLess (cond y by.Hopeless (cond z by.BestPlan by.Opened)) in Visit k q n b o (leads o n b)
       go true e y f z g = no-less (holds _ (no-less-answers k q b n) e)
-      go false e true f z g = ring-kept (less e) (holds _ (hopeless n) f)
+      go false e true f z g = hopeless-node (less e) (holds _ (hopeless n) f)
       go false e false f true g = best-plan (less e) (fails _ (hopeless n) f) (holds _ (solved n) g)
       go false e false f false g = open-node (less e) (fails _ (hopeless n) f) (fails _ (solved n) g)
 
@@ -79,15 +79,20 @@ module _ {W : Type 0} (k : Kind W) (q : Question W) (t : Tests)
     where
       place : {o : Outcome} {p : Place} → Visit k q n b o p → p ≡ leads o n b
       place (no-less h) = refl
-      place (ring-kept h r) = refl
+      place (hopeless-node h r) = refl
       place (best-plan h r s) = refl
       place (open-node h r s) = refl
 
       outcome : {o : Outcome} {p : Place} → Visit k q n b o p → o ≡ outcomeOf k q t n b
       outcome (no-less h) = rw (is-true _ (no-less-answers k q b n) h)
-      outcome (ring-kept h r) = rw (is-false _ (no-less-answers k q b n) h, is-true _ (hopeless n) r)
+      outcome (hopeless-node h r) = rw (is-false _ (no-less-answers k q b n) h, is-true _ (hopeless n) r)
       outcome (best-plan h r s) = rw (is-false _ (no-less-answers k q b n) h, is-false _ (hopeless n) r, is-true _ (solved n) s)
       outcome (open-node h r s) = rw (is-false _ (no-less-answers k q b n) h, is-false _ (hopeless n) r, is-false _ (solved n) s)
+
+  -- as many visits from one place lead to one place
+  walked-once : {v : ℕ} {p a b : Place} → Walked k q v p a → Walked k q v p b → a ≡ b
+  walked-once stay stay = refl
+  walked-once {v = suc v} {b = b} (visit one more) (visit other rest) = walked-once more (subst (λ p. Walked k q v p b) (visit-told other .1 ∙ sym (visit-told one .1)) rest)
 
   pub advance-computed : (budget before : ℕ) (next best : Option Node)
       → Advanced k q budget before (at next best) (before + walks k q t budget next best .0) (walks k q t budget next best .1)
@@ -148,22 +153,22 @@ module _ {W : Type 0} (k : Kind W) (s : Shape) (xs : List (Slot W)) (ds : List �
   ring-advance = advance-computed k (ringQuestion k s xs ds) (ringTests s xs ds) hopeless-answers solved-answers
 
 module _ {W : Type 0} (k : Kind W) (law : Lawful k) where
-  -- within more visits than the walk can make, it ends
   pub walks-end : WalksEnd k
-  walks-end s xs ds decides = record { few = λ v p w. few k law s xs ds decides w; onward = λ v n b w. ring-visit k s xs ds n b; ends = ends }
+  walks-end s xs ds decides = record {
+    few = λ v p w. few k law s xs ds decides w;
+    onward = λ v n b w. ring-visit k s xs ds n b;
+    ends = ends;
+    planned = λ v p w e. let plan = planned k law s xs ds decides p w e in (plan .0, plan .1);
+    one = λ v p p′. walked-once k (ringQuestion k s xs ds) (ringTests s xs ds) (hopeless-answers k s xs ds) (solved-answers k s xs ds);
+  }
     where
-      over : (v : ℕ) (p : Place) → Walked k (ringQuestion k s xs ds) v begun p → p .next ≡ None → (n : Node) × Walked k (ringQuestion k s xs ds) v begun (at None (Some n))
-      over v p w e =
-          let plan = planned k law s xs ds decides p w e in
-          (plan .0, subst (λ b. Walked k (ringQuestion k s xs ds) v begun (at None b)) (plan .1) (subst (λ n. Walked k (ringQuestion k s xs ds) v begun (at n (p .best))) e w))
-
-      ends : (v : ℕ) × (n : Node) × Walked k (ringQuestion k s xs ds) v begun (at None (Some n))
+      -- within more visits than the walk can make, it ends
+      ends : (v : ℕ) × (p : Place) × Walked k (ringQuestion k s xs ds) v begun p × (p .next ≡ None)
       ends =
           let a = ring-advance k s xs ds (2 ^ (length ds + 1)) 0 (Some []) None in
           let most = few k law s xs ds decides (a .walk) in
           let some = pow-pos (length ds + 1) in
-          let plan = over (a .made) _ (a .walk) (a .all (omega arith)) in
-          (a .made, plan .0, plan .1)
+          (a .made, _, a .walk, a .all (omega arith))
 
 -- ---- the ledger
 

@@ -227,6 +227,7 @@ module _ {W : Type 0} (k : Kind W) (law : Lawful k) (s : Shape) where
           stood = λ i. revoked-stand k law s (q .slots) (q .rows) (h .decides) node i (p .short);
           weight = refl;
           number = refl;
+          visits = refl;
           unchanged = h .copied;
           emptied = refl;
         };

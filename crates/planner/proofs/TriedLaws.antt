@@ -27,7 +27,7 @@ run-is : {W : Type 0} (k : Kind W) → RunsAreTold k → (s : Shape) (cs : List 
     → run k s (opened s) cs .0 ≡ answers → run k s (opened s) cs .1 ≡ last → Run k s (opened s) cs answers last
 run-is k told s cs answers last e f = subst (λ l. Run k s (opened s) cs answers l) f (subst (λ as′. Run k s (opened s) cs as′ (run k s (opened s) cs .1)) e (told s cs .0))
 
-holds : {W : Type 0} (k : Kind W) → RunsAreTold k → (t : Trial W) → computed k t ≡ expected k t → Holds k t
+pub holds : {W : Type 0} (k : Kind W) → RunsAreTold k → (t : Trial W) → computed k t ≡ expected k t → Holds k t
 holds k told t e = record {
   told = run-is k told (t .shape) (callsOf t) (answersOf t) (book (leftOf k t)) (ap (λ x. x .0) e) (ap (λ x. x .1) e);
   ordered = is-order (t .shape) (map rightIn (leftOf k t)) (t .order) (subst T (sym (ap (λ x. x .2) e)) tt);

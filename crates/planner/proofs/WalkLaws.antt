@@ -15,7 +15,7 @@ use Rattle.mesh.specs.Kind.{Kind, Lawful}
 use Rattle.planner.specs.declared.walk.Condition.the-variants.{Descending, Returning, Ended}
 use Rattle.planner.specs.declared.walk.Outcome.{Outcome}
 use Rattle.planner.specs.declared.walk.Outcome.the-variants as by
-use Rattle.planner.specs.Walk.{Decision, Node, keep, revoke, Question, NoLess, after, Place, at, begun, Visit, no-less, ring-kept, best-plan, open-node, Walked, stay, visit, condition, hasKeep, closed, settled}
+use Rattle.planner.specs.Walk.{Decision, Node, keep, revoke, Question, NoLess, after, Place, at, begun, Visit, no-less, hopeless-node, best-plan, open-node, Walked, stay, visit, condition, hasKeep, closed, settled}
 
 -- ---- what is left of the walk
 
@@ -94,7 +94,7 @@ module _ {W : Type 0} (k : Kind W) (law : Lawful k) (q : Question W) (size : ℕ
 
   visit-covers : {n : Node} {b : Option Node} {t : Outcome} {p : Place} → Visit k q n b t p → Covers (at (Some n) b) → Covers p
   visit-covers {n} {b} (no-less h) c r s = closes n b b r (dear n b r h) (λ m. m) (c r s)
-  visit-covers {n} {b} (ring-kept h bad) c r s = closes n b b r (λ e. absurd (f .hopeless n r bad e s)) (λ m. m) (c r s)
+  visit-covers {n} {b} (hopeless-node h bad) c r s = closes n b b r (λ e. absurd (f .hopeless n r bad e s)) (λ m. m) (c r s)
   visit-covers {n} {b} (best-plan h good solved) c r s = closes n b (Some n) r (f .cheaper n r) (bettered n b r h) (c r s)
   visit-covers {n} {b} (open-node h good unsolved) c r s =
       elim (c r s) [
@@ -133,7 +133,7 @@ module _ {W : Type 0} (k : Kind W) (q : Question W) (size : ℕ) (full : (n : No
 
   visit-good : {n : Node} {b : Option Node} {t : Outcome} {p : Place} → Visit k q n b t p → Fits (Some n) → Good b → Fits (p .next) × Good (p .best)
   visit-good {n} (no-less h) f g = (fits-after n f, g)
-  visit-good {n} (ring-kept h bad) f g = (fits-after n f, g)
+  visit-good {n} (hopeless-node h bad) f g = (fits-after n f, g)
   visit-good {n} (best-plan h ok solved) f g = (fits-after n f, (f, solved))
   visit-good {n} (open-node h ok unsolved) f g = (fits-deeper n ok unsolved f, g)
 
@@ -180,7 +180,7 @@ module _ {W : Type 0} (k : Kind W) (q : Question W) (size : ℕ) (full : (n : No
 
   visit-left : {n : Node} {b : Option Node} {t : Outcome} {p : Place} (m : ℕ) → Visit k q n b t p → Left (Some n) (suc m) → Left (p .next) m
   visit-left {n} m (no-less h) l = let s = below-some (l .0) in left-after n (l .0) m (l .1) (omega arith)
-  visit-left {n} m (ring-kept h bad) l = let s = below-some (l .0) in left-after n (l .0) m (l .1) (omega arith)
+  visit-left {n} m (hopeless-node h bad) l = let s = below-some (l .0) in left-after n (l .0) m (l .1) (omega arith)
   visit-left {n} m (best-plan h ok solved) l = let s = below-some (l .0) in left-after n (l .0) m (l .1) (omega arith)
   visit-left {n} m (open-node h ok unsolved) l = left-deeper n (l .0) m ok unsolved (l .1) (l .2)
 
@@ -221,6 +221,6 @@ opened-condition (revoke ∷ n) = refl
 pub visit-settled : {W : Type 0} {k : Kind W} {q : Question W} {n : Node} {b : Option Node} {t : Outcome} {p : Place}
     → Visit k q n b t p → condition (p .next) ≡ settled (condition (Some n)) t (hasKeep n)
 visit-settled {n = n} (no-less h) = after-condition n ∙ sym (closed-condition n by.NoLess refl)
-visit-settled {n = n} (ring-kept h bad) = after-condition n ∙ sym (closed-condition n by.RingKept refl)
+visit-settled {n = n} (hopeless-node h bad) = after-condition n ∙ sym (closed-condition n by.Hopeless refl)
 visit-settled {n = n} (best-plan h ok solved) = after-condition n ∙ sym (closed-condition n by.BestPlan refl)
 visit-settled {n = n} (open-node h ok unsolved) = sym (opened-condition n)

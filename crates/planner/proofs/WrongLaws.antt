@@ -25,10 +25,12 @@ use Rattle.planner.specs.Walk.{Question, Place, Walked, stay, visit}
 use Rattle.planner.specs.Ledger.{Ledger, searching, started, tooFew, refusal, Done, advance, Told, done}
 use Rattle.planner.specs.Theorems.{RunsAreTold}
 use Rattle.planner.specs.Tried.{two-by-two, firstTrial, callsOf}
-use Rattle.planner.specs.WrongPlanners.{level, rolled, rollKind, slots, seeker, WrongPlanners}
+use Rattle.planner.specs.WrongPlanners.{level, rolled, rollKind, slots, seeker, levelTrial, WrongPlanners}
 use Rattle.planner.proofs.TestLaws.{is-true, is-false, clash}
-use Rattle.planner.proofs.RingLaws.{has-ring}
+use Rattle.planner.proofs.RingLaws.{has-ring, to-decide}
 use Rattle.planner.proofs.LedgerLaws.{first-none}
+use Rattle.planner.proofs.ComputedLaws.{runs-are-told}
+use Rattle.planner.proofs.TriedLaws.{holds}
 
 pub level-lawful : {W : Type 0} (k : Kind W) → Lawful k → Lawful (level k)
 level-lawful k law = record {
@@ -93,13 +95,15 @@ some-visit {s = s} (advance {q = q} {b = b} {p = p} m) lent r xs ds e none =
 
 pub wrong-planners : RunsAreTold sumKind → Lawful (level sumKind) → WrongPlanners
 wrong-planners told lawful = record {
+  decides = to-decide two-by-two (seeker .slots);
   all-on-rings = λ cheapest. cheapest (λ i. eqb i 1) rid;
   empty-plan = has-ring two-by-two (map rightIn (without (λ _. false) (seeker .slots))) .0 tt;
   no-visit = no-visit;
   lawful = roll-lawful;
   other-order = λ e. let q : _≡_ {A = ℕ} 5 9 = ap (λ w. getD w 0 0) e in omega arith;
   all-equal = lawful;
-  not-sum = refl;
+  its-plan = holds (level sumKind) (runs-are-told (level sumKind) lawful) levelTrial refl;
+  not-cheapest = λ cheapest. cheapest (λ i. eqb i 1) rid;
   no-other = λ answers last law. told two-by-two (callsOf firstTrial) .1 answers last (law .told) .0;
 }
   where

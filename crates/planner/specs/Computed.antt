@@ -42,11 +42,11 @@ isNoLess k q None n = false
 isNoLess k q (Some b) n = k .atMost (q .weight b) (q .weight n)
 
 abbrev pub outcomeOf : {W : Type 0} → Kind W → Question W → Tests → Node → Option Node → Outcome
-outcomeOf k q t n b = cond (isNoLess k q b n) by.NoLess (cond (t .hopeless n) by.RingKept (cond (t .solved n) by.BestPlan by.Opened))
+outcomeOf k q t n b = cond (isNoLess k q b n) by.NoLess (cond (t .hopeless n) by.Hopeless (cond (t .solved n) by.BestPlan by.Opened))
 
 abbrev pub leads : Outcome → Node → Option Node → Place
 leads by.NoLess n b = at (after n) b
-leads by.RingKept n b = at (after n) b
+leads by.Hopeless n b = at (after n) b
 leads by.BestPlan n b = at (after n) (Some n)
 leads by.Opened n b = at (Some (keep ∷ n)) b
 

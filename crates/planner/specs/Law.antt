@@ -25,6 +25,7 @@ pub record Exact {W : Type 0} (k : Kind W) (q : Search W) (plan : Plan W) (slots
   pub stood : (i : ℕ) → T (grants i) → isVacant (getD (q .slots) i None) ≡ false
   pub weight : plan .weight ≡ weightOf k grants (q .slots)
   pub number : plan .grants ≡ numberOf grants (q .slots)
+  pub visits : plan .visits ≡ q .visits
   -- no slot has changed since the start, and exactly theirs are emptied
   pub unchanged : slots ≡ q .slots
   pub emptied : left ≡ without grants slots

@@ -1,5 +1,5 @@
 -- What is proved of every walk and every run, as statements that contracts name.
---     EndsWithin k s xs ds m   the walk over the grants ds of the slots xs makes at most m visits, goes on while a node is left, and ends with a best plan
+--     EndsWithin k s xs ds m   the walk over the grants ds of the slots xs is one, makes at most m visits, goes on while a node is left, and ends with a best plan
 --     WalksEnd k               every walk ends within 2^(n+1) − 1 visits, where n grants are to decide
 --     Settles k                the search's condition follows from the one before it, the test that settled the visit, and whether a keep is left to turn
 --     MarksStand k             at every place of a walk, the first mark of a row to decide is the choice in the node to be visited next,
@@ -36,7 +36,9 @@ pub record EndsWithin {W : Type 0} (k : Kind W) (s : Shape) (xs : List (Slot W))
   pub few : (v : ℕ) (p : Place) → Walked k (ringQuestion k s xs ds) v begun p → v ≤ most
   pub onward : (v : ℕ) (n : Node) (b : Option Node) → Walked k (ringQuestion k s xs ds) v begun (at (Some n) b)
       → (t : Outcome) × (p : Place) × Visit k (ringQuestion k s xs ds) n b t p
-  pub ends : (v : ℕ) × (n : Node) × Walked k (ringQuestion k s xs ds) v begun (at None (Some n))
+  pub ends : (v : ℕ) × (p : Place) × Walked k (ringQuestion k s xs ds) v begun p × (p .next ≡ None)
+  pub planned : (v : ℕ) (p : Place) → Walked k (ringQuestion k s xs ds) v begun p → p .next ≡ None → (n : Node) × (p .best ≡ Some n)
+  pub one : (v : ℕ) (p p′ : Place) → Walked k (ringQuestion k s xs ds) v begun p → Walked k (ringQuestion k s xs ds) v begun p′ → p ≡ p′
 
 abbrev pub WalksEnd : {W : Type 0} → Kind W → Type 0
 WalksEnd {W} k = (s : Shape) (xs : List (Slot W)) (ds : List ℕ) → Decides s xs ds → EndsWithin k s xs ds (2 ^ (length ds + 1) - 1)

@@ -66,10 +66,13 @@ answersOf t = map (λ e. says.Written Fresh) (t .grants) ++ (
     says.Started ∷ says.Advanced (record { visits = t .visits; ended = true })
     ∷ says.Taken (record { weight = t .weight; grants = length (t .revokes); visits = t .visits }) ∷ [])
 
--- the slots in which the grants stand
+-- the slots after the grants are put into them, one by one
+abbrev pub put : {W : Type 0} → Kind W → Shape → List (Slot W) → List Entry → List (Slot W)
+put k s xs [] = xs
+put k s xs (e ∷ es) = put k s (set xs (rowOf s (e .device) (e .point)) (Some (record { right = e .right; weight = k .of (e .amount) }))) es
+
 abbrev pub filled : {W : Type 0} → Kind W → Shape → List Entry → List (Slot W)
-filled k s [] = replicate (rowsOf s) None
-filled k s (e ∷ es) = set (filled k s es) (rowOf s (e .device) (e .point)) (Some (record { right = e .right; weight = k .of (e .amount) }))
+filled k s es = put k s (replicate (rowsOf s) None) es
 
 -- the slots without the revoked grants
 abbrev pub leftOf : {W : Type 0} → Kind W → Trial W → List (Slot W)

@@ -57,7 +57,7 @@ begun = at (Some []) None
 
 pub data Visit {W : Type 0} (k : Kind W) (q : Question W) (n : Node) (b : Option Node) : Outcome → Place → Type 0 where
   no-less : NoLess k q b n → Visit k q n b by.NoLess (at (after n) b)
-  ring-kept : (NoLess k q b n → ⊥) → q .Hopeless n → Visit k q n b by.RingKept (at (after n) b)
+  hopeless-node : (NoLess k q b n → ⊥) → q .Hopeless n → Visit k q n b by.Hopeless (at (after n) b)
   best-plan : (NoLess k q b n → ⊥) → (q .Hopeless n → ⊥) → q .Solved n → Visit k q n b by.BestPlan (at (after n) (Some n))
   open-node : (NoLess k q b n → ⊥) → (q .Hopeless n → ⊥) → (q .Solved n → ⊥) → Visit k q n b by.Opened (at (Some (keep ∷ n)) b)
 
@@ -85,7 +85,7 @@ hasKeep (revoke ∷ n) = hasKeep n
 
 abbrev pub closed : Outcome → Bool
 closed by.NoLess = true
-closed by.RingKept = true
+closed by.Hopeless = true
 closed by.BestPlan = true
 closed by.Opened = false
 

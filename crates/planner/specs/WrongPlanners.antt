@@ -1,4 +1,4 @@
--- Five wrong planners, each with the part of the law that it contradicts. They plan for the first tried table.
+-- Five wrong planners, and what of the law stops each. They plan for the first tried table.
 --     level k          the kind k, but all its weights rank equal
 --     rollKind         a lawful kind whose weights keep the order in which they were joined
 --     WrongPlanners    what stops each of them
@@ -16,10 +16,10 @@ use Rattle.planner.specs.declared.calls.Lent.{Lent}
 use Rattle.planner.specs.declared.calls.Answer.{Answer}
 use Rattle.planner.specs.declared.calls.Answer.the-variants as says
 use Rattle.planner.specs.Grants.{Slot, RowSet, rightsIn, without, chosen, joined, weightOf}
-use Rattle.planner.specs.Search.{isIn}
+use Rattle.planner.specs.Search.{Decides, isIn}
 use Rattle.planner.specs.Ledger.{Search, Ledger, searching, started, Told}
 use Rattle.planner.specs.Law.{Cheapest, Law}
-use Rattle.planner.specs.Tried.{two-by-two, firstTrial, filled, callsOf, answersOf}
+use Rattle.planner.specs.Tried.{Trial, Holds, two-by-two, firstTrial, filled, callsOf, answersOf}
 
 abbrev pub level : {W : Type 0} → Kind W → Kind W
 level k = record {
@@ -51,7 +51,7 @@ rollKind = record {
   text = λ w. [];
 }
 
--- the first tried table, and a search that has just started on it
+-- the first tried table, and a search that starts on it
 abbrev pub slots : {W : Type 0} → Kind W → List (Slot W)
 slots k = filled k two-by-two (firstTrial .grants)
 
@@ -61,18 +61,24 @@ seeker = started (slots sumKind) (0 ∷ 1 ∷ 2 ∷ 3 ∷ [])
 abbrev pub every : RowSet
 every i = true
 
+-- what the planner that ranks all weights equal gives there: the first plan that its walk finds, the grant (1, 1)
+abbrev pub levelTrial : Trial Sum
+levelTrial = record { shape = two-by-two; grants = firstTrial .grants; weight = record { value = 9 }; revokes = (1, 1) ∷ []; visits = 9; order = 1 ∷ 0 ∷ [] }
+
 pub record WrongPlanners : Type 0 where
+  pub decides : Decides two-by-two (seeker .slots) (seeker .rows)
   -- it revokes every grant on a ring: not cheapest
   pub all-on-rings : Cheapest sumKind two-by-two seeker (weightOf sumKind (λ i. isIn i (seeker .rows)) (seeker .slots)) → ⊥
   -- it takes an empty plan: not ringless
   pub empty-plan : Ring (rightsIn two-by-two (without (λ _. false) (seeker .slots)))
-  -- it visits nothing and says ended, or says anything else: not told
+  -- it makes no visit, and says ended or not: not told
   pub no-visit : (c : Lent) (ended : Bool) (l : Ledger Sum) → Told sumKind two-by-two (searching (slots sumKind) seeker) c (says.Advanced (record { visits = 0; ended = ended })) l → ⊥
   -- it joins in another order: not exact, under a lawful kind that tells the orders apart
   pub lawful : Lawful rollKind
   pub other-order : weightOf rollKind every (slots rollKind) ≡ joined rollKind (rollKind .zero) (reverse (chosen every (slots rollKind))) → ⊥
-  -- it ranks all weights equal: lawful, so every part holds by that comparison; sum's is another
+  -- it ranks all weights equal: lawful, so the law holds of its plan by that ranking; by the ranking of sum it is not cheapest
   pub all-equal : Lawful (level sumKind)
-  pub not-sum : sumKind .atMost (weightOf sumKind every (seeker .slots)) (sumKind .zero) ≡ false
+  pub its-plan : Holds (level sumKind) levelTrial
+  pub not-cheapest : Cheapest sumKind two-by-two seeker (levelTrial .weight) → ⊥
   -- whatever obeys the law on the first tried table gives its answers
   pub no-other : (answers : List (Answer Sum)) (last : Ledger Sum) → Law sumKind two-by-two (callsOf firstTrial) answers last → answers ≡ answersOf firstTrial

@@ -16,7 +16,7 @@ pub enum Outcome {
     // a best plan is known, and the node's revoked grants do not weigh less
     NoLess,
     // the grants decided to be kept hold a ring by themselves
-    RingKept,
+    Hopeless,
     // all grants but the revoked ones hold no ring: the revoked ones become the best plan
     BestPlan,
     // none of these: the node is opened
