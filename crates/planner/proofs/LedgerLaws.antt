@@ -2,6 +2,7 @@
 use mathlib.Core.Path.{_≡_, refl, sym, ap, subst, _∙_}
 use mathlib.Core.Bool.{Bool, true, false, not, true≢false}
 use mathlib.Core.List.{List, [], _∷_, _++_}
+use mathlib.Core.Logic.{_⊎_, inl, inr}
 use Prim.Native.Nat.{ℕ, zero, suc, _+_, _<_}
 use native.Mathlib.Omega.{arith}
 use native.Mathlib.Nat.{zero-add, suc-add}
@@ -25,8 +26,8 @@ use Rattle.planner.specs.declared.calls.Answer.the-variants as says
 use Rattle.planner.specs.Grants.{Slot, RowSet, rightsIn, without, grantsIn, numberOf, standing}
 use Rattle.planner.specs.Walk.{Node, Question, Place, at, begun, Walked, stay, visit}
 use Rattle.planner.specs.Search.{Decides, revoked}
-use Rattle.planner.specs.Ledger.{Search, Ledger, book, searching, slotsOf, first, slotAt, isVacant, isEmpty, nodeLeft, tooFew, outside, refusal, freshness, freshNumber, opened, asks, Done, write, erase, read, start, advance, take, abandon, Told, misuse, refused, done, Run, none, then}
-use Rattle.planner.specs.Law.{came, went, total, Exact, Cheapest, Taking, Law}
+use Rattle.planner.specs.Ledger.{Search, Ledger, book, searching, slotsOf, first, slotAt, isVacant, isEmpty, nodeLeft, tooFew, outside, refusal, freshness, freshNumber, opened, asks, started, Done, write, erase, read, start, advance, take, abandon, Told, misuse, refused, done, Run, none, then}
+use Rattle.planner.specs.Law.{came, went, began, total, Begun, Exact, Cheapest, Taking, Law}
 use Rattle.planner.proofs.GrantLaws.{length-without, standing-without, standing-set}
 use Rattle.planner.proofs.QuestionLaws.{Planned, planned, revoked-stand}
 
@@ -186,6 +187,77 @@ cut {k = k} {s = s} {l = l} (then {m = m} {c = c} {a = b} {answers = answers} t 
       on = on .on;
     }
 
+-- ---- where a search started
+
+-- the search at the ledger l is q, if perhaps at another place
+abbrev Same : {W : Type 0} → Ledger W → Search W → Type 0
+Same (book ys) q = ⊥
+Same (searching ys m) q = (m .slots ≡ q .slots) × (m .rows ≡ q .rows)
+
+module _ {W : Type 0} (k : Kind W) (s : Shape) where
+  -- one call before
+  begun-before : {l m : Ledger W} {c : Lent} {a : Answer W} {cs : List Lent} {answers : List (Answer W)} {xs : List (Slot W)} {q : Search W}
+      → Told k s l c a m → Begun k s m cs answers xs q → Begun k s l (c ∷ cs) (a ∷ answers) xs q
+  begun-before {c = c} {a = a} t b = record {
+    before = c ∷ b .before;
+    call = b .call;
+    rest = b .rest;
+    earlier = a ∷ b .earlier;
+    later = b .later;
+    calls = ap (λ cs. c ∷ cs) (b .calls);
+    told = ap (λ as′. a ∷ as′) (b .told);
+    until = then t (b .until);
+    here = b .here;
+    on = b .on;
+    last = b .last;
+  }
+
+  -- a call after which the search is q: the search was q before it, or the call starts q
+  abbrev Either : Ledger W → Lent → Answer W → List Lent → List (Answer W) → List (Slot W) → Search W → Type 0
+  Either l c a cs answers xs q = (Same l q × (began a + total began answers ≡ 0)) ⊎ Begun k s l (c ∷ cs) (a ∷ answers) xs q
+
+  begun-done : {l m : Ledger W} {call : Call} {a : Answer W} {c : Lent} {cs : List Lent} {answers : List (Answer W)} {xs : List (Slot W)} {q : Search W}
+      → Done k s l call a m → Told k s l c a m → Run k s m cs answers (searching xs q) → total began answers ≡ 0 → Same m q → Either l c a cs answers xs q
+  begun-done (advance moves) t r none-after same = inl (same, omega arith)
+  begun-done {c = c} {cs = cs} {answers = answers} {xs = xs} {q = q} (start {xs = ys} {ds = ds} d) t r none-after same = inr (record {
+    before = [];
+    call = c;
+    rest = cs;
+    earlier = [];
+    later = answers;
+    calls = refl;
+    told = refl;
+    until = subst (λ zs. Run k s (book ys) [] [] (book zs)) (same .0) none;
+    here =
+        subst (λ es. Told k s (book (q .slots)) c says.Started (searching (q .slots) (started (q .slots) es))) (same .1)
+        (subst (λ zs. Told k s (book zs) c says.Started (searching zs (started zs ds))) (same .0) t);
+    on =
+        subst (λ es. Run k s (searching (q .slots) (started (q .slots) es)) cs answers (searching xs q)) (same .1)
+        (subst (λ zs. Run k s (searching zs (started zs ds)) cs answers (searching xs q)) (same .0) r);
+    last = none-after;
+  })
+  begun-done write t r none-after same = absurd same
+  begun-done erase t r none-after same = absurd same
+  begun-done read t r none-after same = absurd same
+  begun-done (take e) t r none-after same = absurd same
+  begun-done abandon t r none-after same = absurd same
+
+  begun-here : {l m : Ledger W} {c : Lent} {a : Answer W} {cs : List Lent} {answers : List (Answer W)} {xs : List (Slot W)} {q : Search W}
+      → Told k s l c a m → Run k s m cs answers (searching xs q) → total began answers ≡ 0 → Same m q → Either l c a cs answers xs q
+  begun-here (misuse e) r none-after same = inl (same, omega arith)
+  begun-here (refused e f) r none-after same = inl (same, omega arith)
+  begun-here (done e f d) r none-after same = begun-done d (done e f d) r none-after same
+
+  begun-in : {l : Ledger W} {cs : List Lent} {answers : List (Answer W)} {xs : List (Slot W)} {q : Search W} → Run k s l cs answers (searching xs q)
+      → (Same l q × (total began answers ≡ 0)) ⊎ Begun k s l cs answers xs q
+  begun-in none = inl ((refl, refl), refl)
+  begun-in (then t r) = elim (begun-in r) [ inl h ↦ begun-here t r (h .1) (h .0) | inr b ↦ inr (begun-before t b) ]
+
+  -- a book has no search, so it started on the way
+  begun-on-way : {ys : List (Slot W)} {cs : List Lent} {answers : List (Answer W)} {xs : List (Slot W)} {q : Search W} → Run k s (book ys) cs answers (searching xs q)
+      → Begun k s (book ys) cs answers xs q
+  begun-on-way r = elim (begun-in r) [ inl h ↦ absurd (h .0) | inr b ↦ b ]
+
 -- ---- the law
 
 some-same : {A : Type 0} {a b : A} → Some a ≡ Some b → a ≡ b
@@ -242,6 +314,7 @@ module _ {W : Type 0} (k : Kind W) (law : Lawful k) (s : Shape) where
       → Cut k s (opened s) cs earlier (says.Taken plan) later last → Taking k s cs earlier plan later last
   taking cs earlier plan later last x =
       let t = told-took (x .here) (run-sound (x .until) (opened-sound k s)) in
+      let until = subst (Run k s (opened s) (x .before) earlier) (t .from) (x .until) in
       record {
         before = x .before;
         call = x .call;
@@ -250,9 +323,10 @@ module _ {W : Type 0} (k : Kind W) (law : Lawful k) (s : Shape) where
         owner = t .owner;
         slots = t .slots;
         left = t .left;
-        until = subst (Run k s (opened s) (x .before) earlier) (t .from) (x .until);
+        until = until;
         here = subst (λ l. Told k s l (x .call) (says.Taken plan) (book (t .left))) (t .from) (subst (Told k s (x .from) (x .call) (says.Taken plan)) (t .to) (x .here));
         on = subst (λ l. Run k s l (x .rest) later last) (t .to) (x .on);
+        start = begun-on-way k s until;
         grants = t .grants;
         ringless = t .ringless;
         exact = t .exact;
