@@ -29,7 +29,7 @@ use Rattle.planner.specs.Theorems.{WalksEnd}
 use Rattle.planner.proofs.QuestionLaws.{few, planned}
 use Rattle.planner.proofs.TestLaws.{clash}
 use Rattle.planner.proofs.RingLaws.{has-ring, to-decide, decides-unique}
-use Rattle.planner.proofs.LedgerLaws.{Sound, told-sound, opened-sound, walk-ended}
+use Rattle.planner.proofs.SoundLaws.{Sound, told-sound, opened-sound, walk-ended}
 use Rattle.planner.specs.Computed.{Tests, ringTests, isNoLess, outcomeOf, leads, walks, moves, takes, makes, replies, tell, run}
 
 -- ---- the walk

@@ -2,11 +2,12 @@
 pub mod GrantLaws
 pub mod WalkLaws
 pub mod QuestionLaws
-pub mod LedgerLaws
+pub mod SoundLaws
+pub mod RunLaws
 pub mod TestLaws
 pub mod RingLaws
 pub mod OrderTestLaws
 pub mod ComputedLaws
-pub mod MarkLaws
+pub mod RowLaws
 pub mod TriedLaws
 pub mod WrongLaws

@@ -244,6 +244,11 @@ module _ {W : Type 0} (k : Kind W) (law : Lawful k) (s : Shape) (xs : List (Slot
       go None f = omega arith
       go (Some n) f = f
 
+  pub best-fits : {v : ℕ} {p : Place} → Walked k (ringQuestion k s xs ds) v begun p → (b : Node) → p .best ≡ Some b → length b ≤ length ds
+  best-fits {p = p} w b e =
+      subst (Good k (ringQuestion k s xs ds) (length ds) (λ m f good ring. good (ring-of-kept m f ring))) e
+      (place-good k (ringQuestion k s xs ds) (length ds) (λ m f good ring. good (ring-of-kept m f ring)) w .1) .0
+
   pub held-in : {v : ℕ} {p : Place} → Walked k (ringQuestion k s xs ds) v begun p → (i : ℕ) → T (secondMark ds (p .best) i) → In i ds
   held-in {p = p} w i = go (p .best) (place-good k (ringQuestion k s xs ds) (length ds) (λ n e good ring. good (ring-of-kept n e ring)) w .1)
     where

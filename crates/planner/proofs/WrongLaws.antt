@@ -28,7 +28,7 @@ use Rattle.planner.specs.Tried.{two-by-two, firstTrial, callsOf}
 use Rattle.planner.specs.WrongPlanners.{level, rolled, rollKind, slots, seeker, levelTrial, WrongPlanners}
 use Rattle.planner.proofs.TestLaws.{is-true, is-false, clash}
 use Rattle.planner.proofs.RingLaws.{has-ring, to-decide}
-use Rattle.planner.proofs.LedgerLaws.{first-none}
+use Rattle.planner.proofs.SoundLaws.{first-none}
 use Rattle.planner.proofs.ComputedLaws.{runs-are-told}
 use Rattle.planner.proofs.TriedLaws.{holds}
 

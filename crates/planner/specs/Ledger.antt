@@ -1,6 +1,7 @@
 -- The ledger: what each call answers and leaves, from the calls, their arguments and the number of rows lent alone.
 --     Search W              the slots as they stood at the start, the rows to decide, the visits made, and the place of the walk
 --     Ledger W              a slot for each row of the table; and, while a search has the book, that search
+--     rowIn k l i           what row i of the table shows where the ledger stands
 --     openRefusal d p n     the first refusal of an open of d devices and p points with n rows lent
 --     opened s              the ledger after an open that is not refused
 --     admitted l c          the compiler admits the call: write, erase, read and start need the book, the others the search
@@ -20,6 +21,8 @@ use Rattle.mesh.specs.declared.refusal.Refusal.{Refusal}
 use Rattle.mesh.specs.declared.refusal.Refusal.the-variants.{WrongSize, ShortMemory, OutsideTable, WrongRight, WrongAmount, NothingToErase, WrongBudget, NotEnded}
 use Rattle.mesh.specs.declared.right.Right.{Right}
 use Rattle.mesh.specs.declared.right.Right.the-variants.{Empty, Read, Append, Both}
+use Rattle.mesh.specs.declared.row.Row.{Row}
+use Rattle.mesh.specs.declared.row.Choice.the-variants.{Blank}
 use Rattle.mesh.specs.declared.shape.Shape.{Shape}
 use Rattle.mesh.specs.Kind.{Kind}
 use Rattle.mesh.specs.Table.{rowsOf, rowOf}
@@ -32,7 +35,7 @@ use Rattle.planner.specs.declared.calls.Answer.{Answer}
 use Rattle.planner.specs.declared.calls.Answer.the-variants as says
 use Rattle.planner.specs.Grants.{Slot, rightIn, weightIn, without, weightOf, numberOf}
 use Rattle.planner.specs.Walk.{Node, Question, Place, begun, Advanced}
-use Rattle.planner.specs.Search.{Decides, revoked, ringQuestion}
+use Rattle.planner.specs.Search.{Decides, revoked, ringQuestion, firstMark, secondMark}
 
 pub record Search (W : Type 0) : Type 0 where
   pub slots : List (Slot W)
@@ -47,6 +50,16 @@ pub data Ledger (W : Type 0) : Type 0 where
 abbrev pub slotsOf : {W : Type 0} → Ledger W → List (Slot W)
 slotsOf (book xs) = xs
 slotsOf (searching xs q) = xs
+
+-- what row i of the table shows: the slot's right and weight, and the marks of the search that has the book
+abbrev pub rowIn : {W : Type 0} → Kind W → Ledger W → ℕ → Row W
+rowIn k (book xs) i = record { right = rightIn (getD xs i None); weight = weightIn k (getD xs i None); choice = Blank; held = false }
+rowIn k (searching xs q) i = record {
+  right = rightIn (getD xs i None);
+  weight = weightIn k (getD xs i None);
+  choice = firstMark (q .rows) (q .place .next) i;
+  held = secondMark (q .rows) (q .place .best) i;
+}
 
 -- ---- refusals
 

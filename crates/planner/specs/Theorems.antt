@@ -2,13 +2,14 @@
 --     EndsWithin k s xs ds m   the walk over the grants ds of the slots xs is one, makes at most m visits, goes on while a node is left, and ends with a best plan
 --     WalksEnd k               every walk ends within 2^(n+1) − 1 visits, where n grants are to decide
 --     Settles k                the search's condition follows from the one before it, the test that settled the visit, and whether a keep is left to turn
---     MarksStand k             at every place of a walk, the first mark of a row to decide is the choice in the node to be visited next,
---                              undecided where that has none or no node is left, and rows that are not to decide are blank
+--     RowsShow k               after every run, what rowIn says: e and zero exactly where no grant stands; the first mark of a row to decide is the
+--                              choice in the node to be visited next, undecided where that has none or no node is left; the second is held
+--                              where the best plan revokes the row; all other marks are blank
 --     OpensFit                 an open is refused 3 exactly if its size is out of range, else 4 exactly if rows are missing; else there is a table of that size
 --     RunsObey k               every run obeys the law
 --     RunsAreTold k            every list of calls has one run, and it is the one that computes
 use mathlib.Core.Path.{_≡_}
-use mathlib.Core.Bool.{false}
+use mathlib.Core.Bool.{true, false}
 use mathlib.Core.List.{List, [], _∷_, _++_}
 use mathlib.Core.Logic.{_⊎_}
 use Prim.Native.Nat.{ℕ, _+_, _-_, _*_, _^_, _≤_, _<_}
@@ -18,6 +19,7 @@ use Rattle.std.specs.declared.option.Option.the-variants.{Some, None}
 use Rattle.mesh.specs.declared.shape.Shape.{Shape}
 use Rattle.mesh.specs.declared.refusal.Refusal.{Refusal}
 use Rattle.mesh.specs.declared.refusal.Refusal.the-variants.{WrongSize, ShortMemory}
+use Rattle.mesh.specs.declared.right.Right.the-variants.{Empty}
 use Rattle.mesh.specs.declared.row.Choice.the-variants.{Blank, Undecided}
 use Rattle.mesh.specs.Kind.{Kind}
 use Rattle.mesh.specs.Table.{InRange}
@@ -27,8 +29,8 @@ use Rattle.planner.specs.declared.calls.Answer.{Answer}
 use Rattle.planner.specs.declared.walk.Outcome.{Outcome}
 use Rattle.planner.specs.Grants.{Slot}
 use Rattle.planner.specs.Walk.{Decision, keep, Node, Place, at, begun, Visit, Walked, condition, settled, hasKeep}
-use Rattle.planner.specs.Search.{Decides, markOf, choicesOf, firstMark, secondMark, ringQuestion}
-use Rattle.planner.specs.Ledger.{Ledger, openRefusal, opened, Run}
+use Rattle.planner.specs.Search.{Decides, markOf, isRevoke, choicesOf, ringQuestion}
+use Rattle.planner.specs.Ledger.{Search, Ledger, book, searching, slotsOf, rowIn, isVacant, isEmpty, openRefusal, opened, Run}
 use Rattle.planner.specs.Law.{Law}
 use Rattle.planner.specs.Computed.{run}
 
@@ -52,13 +54,28 @@ abbrev pub inOrder : Node → List Decision
 inOrder [] = []
 inOrder (c ∷ n) = inOrder n ++ (c ∷ [])
 
-pub record Marked (ds : List ℕ) (p : Place) (choices : List Decision) : Type 0 where
-  pub chosen : (j : ℕ) → j < length choices → firstMark ds (p .next) (getD ds j 0) ≡ markOf (getD choices j keep)
-  pub undecided : (j : ℕ) → length choices ≤ j → j < length ds → firstMark ds (p .next) (getD ds j 0) ≡ Undecided
-  pub blank : (i : ℕ) → (In i ds → ⊥) → (firstMark ds (p .next) i ≡ Blank) × (secondMark ds (p .best) i ≡ false)
+-- the marks of the rows while a search has the book
+pub record Marked {W : Type 0} (k : Kind W) (l : Ledger W) (q : Search W) (choices : List Decision) : Type 0 where
+  -- of the rows to decide, by the choices of the node to be visited next
+  pub chosen : (j : ℕ) → j < length choices → rowIn k l (getD (q .rows) j 0) .choice ≡ markOf (getD choices j keep)
+  pub undecided : (j : ℕ) → length choices ≤ j → j < length (q .rows) → rowIn k l (getD (q .rows) j 0) .choice ≡ Undecided
+  pub held : (j : ℕ) (b : Node) → j < length (q .rows) → q .place .best ≡ Some b → rowIn k l (getD (q .rows) j 0) .held ≡ isRevoke (markOf (getD (inOrder b) j keep))
+  pub none-held : (i : ℕ) → q .place .best ≡ None → rowIn k l i .held ≡ false
+  -- of all others
+  pub blank : (i : ℕ) → (In i (q .rows) → ⊥) → (rowIn k l i .choice ≡ Blank) × (rowIn k l i .held ≡ false)
 
-abbrev pub MarksStand : {W : Type 0} → Kind W → Type 0
-MarksStand {W} k = (s : Shape) (xs : List (Slot W)) (ds : List ℕ) (v : ℕ) (p : Place) → Decides s xs ds → Walked k (ringQuestion k s xs ds) v begun p → Marked ds p (inOrder (choicesOf (p .next)))
+abbrev pub MarksOf : {W : Type 0} → Kind W → Ledger W → Type 0
+MarksOf k (book xs) = (i : ℕ) → (rowIn k (book xs) i .choice ≡ Blank) × (rowIn k (book xs) i .held ≡ false)
+MarksOf k (searching xs q) = Marked k (searching xs q) q (inOrder (choicesOf (q .place .next)))
+
+pub record Shown {W : Type 0} (k : Kind W) (l : Ledger W) : Type 0 where
+  -- a row shows e exactly if its slot is empty, and zero then
+  pub granted : (i : ℕ) → isVacant (getD (slotsOf l) i None) ≡ false → isEmpty (rowIn k l i .right) ≡ false
+  pub empty : (i : ℕ) → isVacant (getD (slotsOf l) i None) ≡ true → (rowIn k l i .right ≡ Empty) × (rowIn k l i .weight ≡ k .zero)
+  pub marks : MarksOf k l
+
+abbrev pub RowsShow : {W : Type 0} → Kind W → Type 0
+RowsShow {W} k = (s : Shape) (cs : List Lent) (answers : List (Answer W)) (last : Ledger W) → Run k s (opened s) cs answers last → Shown k last
 
 pub record OpenFits (devices points lent : ℕ) : Type 0 where
   pub size : openRefusal devices points lent ≡ Some WrongSize → InRange devices × InRange points → ⊥

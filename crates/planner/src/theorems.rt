@@ -1,5 +1,5 @@
 // What is proved of every walk and every run, for every weight kind: each function's contract is the theorem.
-ghost use Rattle.planner.specs.Theorems.{MarksStand, OpensFit, RunsAreTold, RunsObey, Settles, WalksEnd};
+ghost use Rattle.planner.specs.Theorems.{OpensFit, RowsShow, RunsAreTold, RunsObey, Settles, WalksEnd};
 ghost use Rattle.mesh.specs.Kind.{Lawful};
 ghost use Rattle.planner.specs.Tried.{Tried};
 ghost use Rattle.planner.specs.WrongPlanners.{WrongPlanners, level};
@@ -19,9 +19,9 @@ pub fn conditions_settle<W: Weight>()
     ensures follows { λ _. ⌜ Settles (W·Weight .meaning) ⌝ }
 {}
 
-// The marks of each row, at every place of a walk and after its end.
-pub fn marks_stand<W: Weight>()
-    ensures marks { λ _. ⌜ MarksStand (W·Weight .meaning) ⌝ }
+// After every run: which rows show e, and the marks of each row.
+pub fn rows_show<W: Weight>()
+    ensures rows { λ _. ⌜ RowsShow (W·Weight .meaning) ⌝ }
 {}
 
 // When an open is refused, and with which number.

@@ -1,4 +1,4 @@
--- The marks of a place of the walk, and what an open wants.
+-- What the rows show after a run, and what an open wants.
 use mathlib.Core.Path.{_≡_, refl, sym, ap, ap₂, _∙_}
 use mathlib.Core.Bool.{Bool, true, false, cond, not, _&&_}
 use mathlib.Core.List.{List, [], _∷_, _++_}
@@ -9,21 +9,28 @@ use native.Mathlib.Nat.{not-suc-le-zero, le-of-suc-le-suc}
 use borrow.Author.Tests.{eq-eqb, ne-eqb}
 use lib.Dec.{ltb, leb}
 use lib.ListN.{length, getD}
-use Rattle.std.proofs.shelf.Lists.{length-append, getD-append-left, getD-at}
+use Rattle.std.proofs.shelf.Lists.{length-append, getD-append-left, getD-at, getD-past}
 use Rattle.std.proofs.shelf.Tests.{true≢false, cases-lt, and-parts, ltb-true, ltb-false, leb-true, le-leb}
 use Rattle.std.specs.declared.option.Option.{Option}
 use Rattle.mesh.specs.declared.refusal.Refusal.{Refusal}
 use Rattle.mesh.specs.declared.refusal.Refusal.the-variants.{WrongSize, ShortMemory}
+use Rattle.mesh.specs.declared.right.Right.the-variants.{Empty}
+use Rattle.mesh.specs.declared.shape.Shape.{Shape}
+use Rattle.std.specs.declared.option.Option.the-variants.{Some, None}
 use Rattle.mesh.specs.declared.row.Choice.the-variants.{Blank, Undecided}
 use Rattle.mesh.specs.Kind.{Kind, Lawful}
 use Rattle.mesh.specs.Table.{InRange}
 use Rattle.flow.specs.Flow.{In}
 use Rattle.planner.specs.Walk.{Decision, keep, Node}
-use Rattle.planner.specs.Search.{Rising, markOf, choiceOf, isIn, choicesOf, firstMark, secondMark}
-use Rattle.planner.specs.Ledger.{first, inRange, openRefusal}
-use Rattle.planner.specs.Theorems.{inOrder, MarksStand, OpenFits, OpensFit}
+use Rattle.planner.specs.Search.{Rising, markOf, choiceOf, isRevoke, revoked, isIn, choicesOf, firstMark, secondMark}
+use Rattle.planner.specs.Ledger.{Search, Ledger, book, searching, isVacant, first, inRange, openRefusal, opened, Run}
+use Rattle.planner.specs.declared.calls.Lent.{Lent}
+use Rattle.planner.specs.declared.calls.Answer.{Answer}
+use Rattle.planner.specs.Grants.{Slot, rightIn, weightIn}
+use Rattle.planner.specs.Theorems.{inOrder, Marked, Shown, OpenFits, OpensFit}
 use Rattle.planner.proofs.TestLaws.{in-test, test-in, clash, is-true, is-false}
-use Rattle.planner.proofs.QuestionLaws.{at-in, next-fits, held-in}
+use Rattle.planner.proofs.QuestionLaws.{at-in, next-fits, best-fits, held-in}
+use Rattle.planner.proofs.SoundLaws.{Searching, Sound, granted-at, run-sound, opened-sound}
 
 length-in-order : (n : Node) → length (inOrder n) ≡ length n
 length-in-order [] = refl
@@ -78,16 +85,42 @@ mark-in ds next j h = ap (λ b. cond b (choiceOf ds (choicesOf next) (getD ds j 
 mark-out : (ds : List ℕ) (next : Option Node) (i : ℕ) → (In i ds → ⊥) → firstMark ds next i ≡ Blank
 mark-out ds next i n = ap (λ b. cond b (choiceOf ds (choicesOf next) i) Blank) (out-false i ds n)
 
-pub marks-stand : {W : Type 0} (k : Kind W) → Lawful k → MarksStand k
-marks-stand k law s xs ds v p d w =
-    let n = choicesOf (p .next) in
-    let fits = next-fits k law s xs ds d w in
-    let long = length-in-order n in
-    record {
-      chosen = λ j h. mark-in ds (p .next) j (omega arith) ∙ choice-at ds (d .rising) n fits j (omega arith);
-      undecided = λ j g h. mark-in ds (p .next) j h ∙ choice-none ds (d .rising) n j (omega arith) h;
-      blank = λ i out. (mark-out ds (p .next) i out, is-false (secondMark ds (p .best) i) (λ t. out (held-in k law s xs ds d w i t)));
-    }
+-- the best plan holds the rows that its choices revoke
+held-at : (ds : List ℕ) → Rising ds → (b : Node) → length b ≤ length ds → (j : ℕ) → j < length ds → revoked ds b (getD ds j 0) ≡ isRevoke (markOf (getD (inOrder b) j keep))
+held-at ds r b l j h = go (cases-lt j (length b))
+  where
+    go : (j < length b) ⊎ (length b ≤ j) → revoked ds b (getD ds j 0) ≡ isRevoke (markOf (getD (inOrder b) j keep))
+    go (inl lt) = ap isRevoke (choice-at ds r b l j lt)
+    go (inr ge) =
+        let long = length-in-order b in
+        ap isRevoke (choice-none ds r b j ge h) ∙ sym (ap (λ c. isRevoke (markOf c)) (getD-past (inOrder b) j keep (omega arith)))
+
+module _ {W : Type 0} (k : Kind W) (law : Lawful k) (s : Shape) where
+  marked : (xs : List (Slot W)) (q : Search W) → Searching k s xs q → Marked k (searching xs q) q (inOrder (choicesOf (q .place .next)))
+  marked xs q h =
+      let ds = q .rows in
+      let n = choicesOf (q .place .next) in
+      let rising = h .decides .rising in
+      let fits = next-fits k law s (q .slots) ds (h .decides) (h .walked) in
+      let long = length-in-order n in
+      record {
+        chosen = λ j l. mark-in ds (q .place .next) j (omega arith) ∙ choice-at ds rising n fits j (omega arith);
+        undecided = λ j g l. mark-in ds (q .place .next) j l ∙ choice-none ds rising n j (omega arith) l;
+        held = λ j b l e. ap (λ x. secondMark ds x (getD ds j 0)) e ∙ held-at ds rising b (best-fits k law s (q .slots) ds (h .decides) (h .walked) b e) j l;
+        none-held = λ i e. ap (λ x. secondMark ds x i) e;
+        blank = λ i out. (mark-out ds (q .place .next) i out, is-false (secondMark ds (q .place .best) i) (λ t. out (held-in k law s (q .slots) ds (h .decides) (h .walked) i t)));
+      }
+
+  vacant : (x : Slot W) → isVacant x ≡ true → (rightIn x ≡ Empty) × (weightIn k x ≡ k .zero)
+  vacant None e = (refl, refl)
+  vacant (Some x) e = absurd (true≢false (sym e))
+
+  shown : (l : Ledger W) → Sound k s l → Shown k l
+  shown (book xs) h = record { granted = λ i. granted-at xs i (h .granted); empty = λ i. vacant (getD xs i None); marks = λ i. (refl, refl) }
+  shown (searching xs q) h = record { granted = λ i. granted-at xs i (h .slots .granted); empty = λ i. vacant (getD xs i None); marks = marked xs q h }
+
+  pub rows-show : (cs : List Lent) (answers : List (Answer W)) (last : Ledger W) → Run k s (opened s) cs answers last → Shown k last
+  rows-show cs answers last r = shown last (run-sound r (opened-sound k s))
 
 -- ---- opens
 

@@ -1,19 +1,13 @@
--- What holds of every run of the ledger, and that it obeys the law.
+-- Every run of the ledger obeys the law.
 use mathlib.Core.Path.{_≡_, refl, sym, ap, subst, _∙_}
-use mathlib.Core.Bool.{Bool, true, false, not, true≢false}
+use mathlib.Core.Bool.{false, not, true≢false}
 use mathlib.Core.List.{List, [], _∷_, _++_}
 use mathlib.Core.Logic.{_⊎_, inl, inr}
-use Prim.Native.Nat.{ℕ, zero, suc, _+_, _<_}
+use Prim.Native.Nat.{ℕ, zero, suc, _+_}
 use native.Mathlib.Omega.{arith}
-use native.Mathlib.Nat.{zero-add, suc-add}
-use lib.Dec.{leb}
-use lib.ListN.{length, replicate, length-set, length-replicate}
-use Rattle.std.proofs.shelf.Bits.{mul-add-lt}
-use Rattle.std.proofs.shelf.Tests.{or-parts, leb-false}
-use Rattle.std.specs.declared.option.Option.{Option}
+use lib.ListN.{length, replicate}
 use Rattle.std.specs.declared.option.Option.the-variants.{Some, None}
-use Rattle.mesh.specs.declared.refusal.Refusal.{Refusal}
-use Rattle.mesh.specs.declared.refusal.Refusal.the-variants.{ShortMemory, OutsideTable, WrongRight, WrongAmount, NothingToErase, NotEnded}
+use Rattle.mesh.specs.declared.refusal.Refusal.the-variants.{WrongRight, WrongAmount, NothingToErase}
 use Rattle.mesh.specs.declared.shape.Shape.{Shape}
 use Rattle.mesh.specs.Kind.{Kind, Lawful}
 use Rattle.mesh.specs.Table.{rowsOf, rowOf}
@@ -24,77 +18,14 @@ use Rattle.planner.specs.declared.calls.Plan.{Plan}
 use Rattle.planner.specs.declared.calls.Answer.{Answer}
 use Rattle.planner.specs.declared.calls.Answer.the-variants as says
 use Rattle.planner.specs.Grants.{Slot, RowSet, rightsIn, without, grantsIn, numberOf, standing}
-use Rattle.planner.specs.Walk.{Node, Question, Place, at, begun, Walked, stay, visit}
-use Rattle.planner.specs.Search.{Decides, revoked}
-use Rattle.planner.specs.Ledger.{Search, Ledger, book, searching, slotsOf, first, slotAt, isVacant, isEmpty, nodeLeft, tooFew, outside, refusal, freshness, freshNumber, opened, asks, started, Done, write, erase, read, start, advance, take, abandon, Told, misuse, refused, done, Run, none, then}
+use Rattle.planner.specs.Search.{revoked}
+use Rattle.planner.specs.Ledger.{Search, Ledger, book, searching, slotsOf, slotAt, isVacant, isEmpty, tooFew, refusal, freshness, freshNumber, opened, started, Done, write, erase, read, start, advance, take, abandon, Told, misuse, refused, done, Run, none, then}
 use Rattle.planner.specs.Law.{came, went, began, total, Begun, Exact, Cheapest, Taking, Law}
-use Rattle.planner.proofs.GrantLaws.{length-without, standing-without, standing-set}
+use Rattle.planner.proofs.GrantLaws.{standing-without, standing-set}
+use Rattle.planner.proofs.SoundLaws.{first-none, row-named, walk-ended, Sound, told-sound, run-sound, opened-sound}
 use Rattle.planner.proofs.QuestionLaws.{Planned, planned, revoked-stand}
 
--- ---- the walk in hand
-
-pub walked-then : {W : Type 0} {k : Kind W} {q : Question W} {v w : ℕ} {p p′ p″ : Place} → Walked k q v p p′ → Walked k q w p′ p″ → Walked k q (v + w) p p″
-walked-then stay rest = rw zero-add rest
-walked-then (visit one more) rest = rw suc-add (visit one (walked-then more rest))
-
--- ---- what holds of the ledgers of a run
-
-pub record Searching {W : Type 0} (k : Kind W) (s : Shape) (xs : List (Slot W)) (q : Search W) : Type 0 where
-  pub sized : length xs ≡ rowsOf s
-  pub copied : xs ≡ q .slots
-  pub decides : Decides s (q .slots) (q .rows)
-  pub walked : Walked k (asks k s q) (q .visits) begun (q .place)
-
-abbrev pub Sound : {W : Type 0} → Kind W → Shape → Ledger W → Type 0
-Sound k s (book xs) = length xs ≡ rowsOf s
-Sound k s (searching xs q) = Searching k s xs q
-
-done-sound : {W : Type 0} {k : Kind W} {s : Shape} {l l′ : Ledger W} {c : Call} {a : Answer W} → Done k s l c a l′ → Sound k s l → Sound k s l′
-done-sound {s = s} (write {xs = xs} {d = d} {p = p}) h = length-set xs (rowOf s d p) _ ∙ h
-done-sound {s = s} (erase {xs = xs} {d = d} {p = p}) h = length-set xs (rowOf s d p) _ ∙ h
-done-sound read h = h
-done-sound (start d) h = record { sized = h; copied = refl; decides = d; walked = stay }
-done-sound {k = k} {s = s} (advance {q = q} {p = p} m) h = record {
-  sized = h .sized;
-  copied = h .copied;
-  decides = h .decides;
-  walked = subst (λ v. Walked k (asks k s q) v begun p) (sym (m .counted)) (walked-then (h .walked) (m .walk));
-}
-done-sound (take {xs = xs} {q = q} {n = n} e) h = length-without (revoked (q .rows) n) xs ∙ h .sized
-done-sound abandon h = h .sized
-
-pub told-sound : {W : Type 0} {k : Kind W} {s : Shape} {l l′ : Ledger W} {c : Lent} {a : Answer W} → Told k s l c a l′ → Sound k s l → Sound k s l′
-told-sound (misuse e) h = h
-told-sound (refused e r) h = h
-told-sound (done e r d) h = done-sound d h
-
-pub run-sound : {W : Type 0} {k : Kind W} {s : Shape} {l l′ : Ledger W} {cs : List Lent} {answers : List (Answer W)} → Run k s l cs answers l′ → Sound k s l → Sound k s l′
-run-sound none h = h
-run-sound (then t r) h = run-sound r (told-sound t h)
-
-pub opened-sound : {W : Type 0} (k : Kind W) (s : Shape) → Sound {W = W} k s (opened s)
-opened-sound k s = length-replicate (rowsOf s) None
-
 -- ---- counted
-
-pub first-none : (b : Bool) (why : Refusal) (rest : List (Bool × Refusal)) → first ((b, why) ∷ rest) ≡ None → (b ≡ false) × (first rest ≡ None)
-first-none true why rest e = (cc, cc)
-first-none false why rest e = (refl, e)
-
--- a row that is not outside is one of the table's
-row-within : (s : Shape) (d p : ℕ) → outside s d p ≡ false → rowOf s d p < rowsOf s
-row-within s d p e =
-    let io = or-parts (leb (s .devices) d) (leb (s .points) p) e in
-    let low = mul-add-lt d (s .points) p (s .devices) (leb-false (s .devices) d (io .0)) (leb-false (s .points) p (io .1)) in
-    omega arith
-
--- a call that is not refused names a row of the table
-row-named : (s : Shape) (n d p : ℕ) (rest : List (Bool × Refusal)) → first ((tooFew s n, ShortMemory) ∷ (outside s d p, OutsideTable) ∷ rest) ≡ None
-    → (rowOf s d p < rowsOf s) × (first rest ≡ None)
-row-named s n d p rest e =
-    let enough = first-none (tooFew s n) ShortMemory ((outside s d p, OutsideTable) ∷ rest) e in
-    let within = first-none (outside s d p) OutsideTable rest (enough .1) in
-    (row-within s d p (within .0), within .1)
 
 fresh-or-stood : {W : Type 0} (x : Slot W) → freshNumber (freshness x) + length (grantsIn x) ≡ 1
 fresh-or-stood None = refl
@@ -262,12 +193,6 @@ module _ {W : Type 0} (k : Kind W) (s : Shape) where
 
 some-same : {A : Type 0} {a b : A} → Some a ≡ Some b → a ≡ b
 some-same e = cc
-
--- a take that is not refused finds the walk ended
-pub walk-ended : (next best : Option Node) (few : Bool) → first ((few, ShortMemory) ∷ (nodeLeft (at next best), NotEnded) ∷ []) ≡ None → next ≡ None
-walk-ended None best few e = refl
-walk-ended (Some n) best true e = cc
-walk-ended (Some n) best false e = cc
 
 module _ {W : Type 0} (k : Kind W) (law : Lawful k) (s : Shape) where
   -- a plan that is taken, from the ledger l to the ledger l′
