@@ -1,4 +1,4 @@
--- The test of an order answers the proposition.
+-- The tests of rings and orders answer the propositions.
 use mathlib.Core.Path.{_≡_, refl, sym, subst}
 use mathlib.Core.Bool.{Bool, true, false, not, _&&_, _||_}
 use mathlib.Core.List.{List, [], _∷_}
@@ -12,9 +12,10 @@ use Rattle.mesh.specs.declared.shape.Shape.{Shape}
 use Rattle.flow.specs.Flow.{Rights, placed, Source, In, Different}
 use Rattle.flow.specs.Order.{Ready, Lowest, FlowOrder}
 use Rattle.planner.specs.Search.{isIn}
+use Rattle.planner.specs.Theorems.{TestsAnswer}
 use Rattle.planner.specs.FlowTests.{isSource, allBelow, allDifferent, isReady, isLowest, isOrder}
 use Rattle.planner.proofs.TestLaws.{both, parts, either, test-equal, all-below, below-all, in-test, test-in, test-not, not-test}
-use Rattle.planner.proofs.RingLaws.{is-source, source-is, placed-inside}
+use Rattle.planner.proofs.RingLaws.{is-source, source-is, placed-inside, has-ring, on-ring, ring-on}
 
 different : (xs : List ℕ) → T (allDifferent xs) → Different xs
 different [] t = tt
@@ -71,3 +72,12 @@ is-order s rs xs t = record {
 
     m : T (allBelow (s .devices) (λ d. isIn d xs)) × T (allBelow (s .devices) (λ k. isLowest s (placed s rs) (take k xs) (getD xs k 0)))
     m = parts _ _ (k .1)
+
+pub tests-answer : TestsAnswer
+tests-answer s rs = record {
+  ring = has-ring s rs .0;
+  ring-found = has-ring s rs .1;
+  on-ring = on-ring s (placed s rs);
+  on-ring-found = λ d p. ring-on s (placed s rs) d p (placed-inside s rs);
+  order = is-order s rs;
+}

@@ -211,7 +211,7 @@ has-ring s rs = (found, stands)
 -- ---- grants on a ring
 
 module _ (s : Shape) (g : Rights) (d p : ℕ) where
-  on-ring : T (onRing s g d p) → OnRing g d p
+  pub on-ring : T (onRing s g d p) → OnRing g d p
   on-ring t =
       let at = any-found (s .devices) (λ a. anyBelow (s .devices) (λ b. stepOnRing s g d p a b)) t in
       let to = any-found (s .devices) (λ b. stepOnRing s g d p (at .0) b) (at .2) in
@@ -235,7 +235,7 @@ module _ (s : Shape) (g : Rights) (d p : ℕ) where
             one-of = elim (either (eqb d a) (eqb d b) (ends .0)) [ inl e ↦ inl (test-equal d a e) | inr e ↦ inr (test-equal d b e) ];
           }
 
-  ring-on : Inside s g → OnRing g d p → T (onRing s g d p)
+  pub ring-on : Inside s g → OnRing g d p → T (onRing s g d p)
   ring-on inside o =
       let a = o .from in
       let b = o .to in

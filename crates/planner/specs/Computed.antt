@@ -1,4 +1,4 @@
--- Walk and ledger as functions that compute. They are proved to agree with the relations.
+-- Walk and ledger as functions that compute. That they agree with the relations is a theorem.
 --     Tests                  tests for a question's two propositions
 --     outcomeOf, leads       the test that settles a visit, and where it leaves the walk
 --     walks k q t b p        the visits made within the budget b, and where they lead

@@ -1,4 +1,4 @@
--- Rings and orders as tests that compute. Each is proved to answer the proposition.
+-- Rings and orders as tests that compute. That they answer the propositions is a theorem.
 --     anyBelow n f        f passes some number below n; allBelow n f: every one
 --     isSource s g a b    a is a source of b
 --     flowsTo s g n a b   flow of a comes to b, on the way only over devices below n
@@ -51,6 +51,7 @@ passing f (suc n) i = cond (f i) (i ∷ passing f n (suc i)) (passing f n (suc i
 abbrev pub toDecide : {W : Type 0} → Shape → List (Slot W) → List ℕ
 toDecide s xs = passing (λ i. onRing s (rightsIn s xs) (i / s .points) (i % s .points)) (rowsOf s) 0
 
+-- none stands twice
 abbrev pub allDifferent : List ℕ → Bool
 allDifferent [] = true
 allDifferent (x ∷ xs) = not (isIn x xs) && allDifferent xs
@@ -59,6 +60,7 @@ allDifferent (x ∷ xs) = not (isIn x xs) && allDifferent xs
 abbrev pub isReady : Shape → Rights → List ℕ → ℕ → Bool
 isReady s g xs d = ltb d (s .devices) && (not (isIn d xs) && allBelow (s .devices) (λ a. not (isSource s g a d) || isIn a xs))
 
+-- d is the lowest device that can be listed after those of xs
 abbrev pub isLowest : Shape → Rights → List ℕ → ℕ → Bool
 isLowest s g xs d = isReady s g xs d && allBelow d (λ e. not (isReady s g xs e))
 

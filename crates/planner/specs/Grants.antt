@@ -53,6 +53,7 @@ without c (x ∷ xs) = cond (c 0) None x ∷ without (beyond c) xs
 abbrev pub only : {W : Type 0} → RowSet → List (Slot W) → List (Slot W)
 only c xs = without (λ i. not (c i)) xs
 
+-- the grant in a slot, if one stands
 abbrev pub grantsIn : {W : Type 0} → Slot W → List (Grant W)
 grantsIn None = []
 grantsIn (Some x) = x ∷ []
@@ -61,6 +62,7 @@ abbrev pub chosen : {W : Type 0} → RowSet → List (Slot W) → List (Grant W)
 chosen c [] = []
 chosen c (x ∷ xs) = cond (c 0) (grantsIn x) [] ++ chosen (beyond c) xs
 
+-- w joined with the grants' weights, one by one
 abbrev pub joined : {W : Type 0} → Kind W → W → List (Grant W) → W
 joined k w [] = w
 joined k w (x ∷ xs) = joined k (k .join w (x .weight)) xs

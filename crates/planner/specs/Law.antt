@@ -47,6 +47,7 @@ went (says.Advanced p) = 0
 went (says.Taken p) = p .grants
 went says.Abandoned = 0
 
+-- what the answers tell together
 abbrev pub total : {W : Type 0} → (Answer W → ℕ) → List (Answer W) → ℕ
 total f [] = 0
 total f (a ∷ answers) = f a + total f answers

@@ -47,6 +47,7 @@ pub data Ledger (W : Type 0) : Type 0 where
   book : List (Slot W) → Ledger W
   searching : List (Slot W) → Search W → Ledger W
 
+-- the grants that stand
 abbrev pub slotsOf : {W : Type 0} → Ledger W → List (Slot W)
 slotsOf (book xs) = xs
 slotsOf (searching xs q) = xs
@@ -68,31 +69,38 @@ abbrev pub first : List (Bool × Refusal) → Option Refusal
 first [] = None
 first (x ∷ xs) = cond (x .0) (Some (x .1)) (first xs)
 
+-- a number of devices, or of points
 abbrev pub inRange : ℕ → Bool
 inRange n = leb 1 n && leb n 64
 
 abbrev pub openRefusal : ℕ → ℕ → ℕ → Option Refusal
 openRefusal devices points lent = first ((not (inRange devices && inRange points), WrongSize) ∷ (ltb lent (devices * points), ShortMemory) ∷ [])
 
+-- the slot of a device and a point
 abbrev pub slotAt : {W : Type 0} → Shape → List (Slot W) → ℕ → ℕ → Slot W
 slotAt s xs d p = getD xs (rowOf s d p) None
 
+-- no grant stands in the slot
 abbrev pub isVacant : {W : Type 0} → Slot W → Bool
 isVacant None = true
 isVacant (Some x) = false
 
+-- the right e
 abbrev pub isEmpty : Right → Bool
 isEmpty Empty = true
 isEmpty Read = false
 isEmpty Append = false
 isEmpty Both = false
 
+-- the walk has not ended
 abbrev pub nodeLeft : Place → Bool
 nodeLeft p = elim (p .next) [ None ↦ false | Some n ↦ true ]
 
+-- fewer rows are lent than the table has
 abbrev pub tooFew : Shape → ℕ → Bool
 tooFew s lent = ltb lent (rowsOf s)
 
+-- the device or the point is not in the table
 abbrev pub outside : Shape → ℕ → ℕ → Bool
 outside s d p = leb (s .devices) d || leb (s .points) p
 
@@ -122,6 +130,7 @@ refusal k s (searching xs q) c n = first (ofSearch s q c n)
 
 -- ---- calls that the compiler admits
 
+-- a call on the book, not on a search
 abbrev pub onBook : Call → Bool
 onBook (call.Write d p r a) = true
 onBook (call.Erase d p) = true
@@ -140,6 +149,7 @@ admitted (searching xs q) c = not (onBook c)
 abbrev pub opened : {W : Type 0} → Shape → Ledger W
 opened s = book (replicate (rowsOf s) None)
 
+-- fresh where no grant stood
 abbrev pub freshness : {W : Type 0} → Slot W → Written
 freshness None = Fresh
 freshness (Some x) = Replaced
@@ -157,6 +167,7 @@ reading k x = says.Read (rightIn x) (weightIn k x)
 abbrev pub started : {W : Type 0} → List (Slot W) → List ℕ → Search W
 started xs ds = record { slots = xs; rows = ds; visits = 0; place = begun }
 
+-- the search after an advance to v visits and the place p
 abbrev pub moved : {W : Type 0} → Search W → ℕ → Place → Search W
 moved q v p = record { slots = q .slots; rows = q .rows; visits = v; place = p }
 
@@ -168,6 +179,7 @@ asks k s q = ringQuestion k s (q .slots) (q .rows)
 abbrev pub plan : {W : Type 0} → Kind W → Search W → Node → Answer W
 plan k q n = says.Taken (record { weight = weightOf k (revoked (q .rows) n) (q .slots); grants = numberOf (revoked (q .rows) n) (q .slots); visits = q .visits })
 
+-- a rule for each call
 pub data Done {W : Type 0} (k : Kind W) (s : Shape) : Ledger W → Call → Answer W → Ledger W → Type 0 where
   write : {xs : List (Slot W)} {d p a : ℕ} {r : Right}
       → Done k s (book xs) (call.Write d p r a) (says.Written (freshness (slotAt s xs d p))) (book (set xs (rowOf s d p) (Some (record { right = r; weight = k .of a }))))
@@ -179,6 +191,7 @@ pub data Done {W : Type 0} (k : Kind W) (s : Shape) : Ledger W → Call → Answ
   take : {xs : List (Slot W)} {q : Search W} {n : Node} → q .place .best ≡ Some n → Done k s (searching xs q) call.Take (plan k q n) (book (without (revoked (q .rows) n) xs))
   abandon : {xs : List (Slot W)} {q : Search W} → Done k s (searching xs q) call.Abandon says.Abandoned (book xs)
 
+-- a call that is not admitted, or refused, leaves the ledger as it is
 pub data Told {W : Type 0} (k : Kind W) (s : Shape) (l : Ledger W) (c : Lent) : Answer W → Ledger W → Type 0 where
   misuse : admitted l (c .call) ≡ false → Told k s l c says.Misuse l
   refused : {why : Refusal} → admitted l (c .call) ≡ true → refusal k s l (c .call) (c .rows) ≡ Some why → Told k s l c (says.Refused why) l

@@ -3,7 +3,8 @@
 --     choiceOf ds n i          the node's choice for row i, undecided where it has none
 --     kept, revoked ds n       the rows that the node decides to keep, and to revoke
 --     ringQuestion k s xs ds   hopeless: the kept grants hold a ring by themselves; solved: all but the revoked ones hold none
---     firstMark, secondMark    the marks of row i
+--     firstMark ds n i         the first mark of row i where n is to be visited next: blank where the row is not to decide
+--     secondMark ds b i        its second mark: held where the best plan b revokes the row
 use mathlib.Core.Path.{_≡_}
 use mathlib.Core.Bool.{Bool, true, false, cond, _||_}
 use mathlib.Core.List.{List, [], _∷_}
@@ -21,7 +22,7 @@ use Rattle.flow.specs.Flow.{In, Ring, OnRing}
 use Rattle.planner.specs.Grants.{Slot, RowSet, rightsIn, without, only, weightOf}
 use Rattle.planner.specs.Walk.{Decision, keep, revoke, Node, Question}
 
--- each below the next
+-- each below all that come after it
 abbrev pub Rising : List ℕ → Type 0
 Rising [] = Unit {0}
 Rising (x ∷ xs) = ((y : ℕ) → In y xs → x < y) × Rising xs
@@ -31,6 +32,7 @@ pub record Decides {W : Type 0} (s : Shape) (xs : List (Slot W)) (ds : List ℕ)
   pub all : (d p : ℕ) → OnRing (rightsIn s xs) d p → In (rowOf s d p) ds
   pub none-else : (i : ℕ) → In i ds → (d : ℕ) × (p : ℕ) × (i ≡ rowOf s d p) × OnRing (rightsIn s xs) d p
 
+-- a choice, as a mark
 abbrev pub markOf : Decision → Choice
 markOf keep = Keep
 markOf revoke = Revoke
@@ -65,6 +67,7 @@ ringQuestion k s xs ds = record {
   Solved = λ n. Ring (rightsIn s (without (revoked ds n) xs)) → ⊥;
 }
 
+-- i stands in the list, as a test
 abbrev pub isIn : ℕ → List ℕ → Bool
 isIn i [] = false
 isIn i (d ∷ ds) = eqb i d || isIn i ds

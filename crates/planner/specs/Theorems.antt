@@ -6,6 +6,7 @@
 --                              choice in the node to be visited next, undecided where that has none or no node is left; the second is held
 --                              where the best plan revokes the row; all other marks are blank
 --     OpensFit                 an open is refused 3 exactly if its size is out of range, else 4 exactly if rows are missing; else there is a table of that size
+--     TestsAnswer              the tests that compute pass exactly where a ring stands, or a grant lies on one; and where a list passes, it is the flow order
 --     RunsObey k               every run obeys the law
 --     RunsAreTold k            every list of calls has one run, and it is the one that computes
 use mathlib.Core.Path.{_≡_}
@@ -13,17 +14,20 @@ use mathlib.Core.Bool.{true, false}
 use mathlib.Core.List.{List, [], _∷_, _++_}
 use mathlib.Core.Logic.{_⊎_}
 use Prim.Native.Nat.{ℕ, _+_, _-_, _*_, _^_, _≤_, _<_}
+use lib.Dec.{T}
 use lib.ListN.{length, getD}
 use Rattle.std.specs.declared.option.Option.{Option}
 use Rattle.std.specs.declared.option.Option.the-variants.{Some, None}
 use Rattle.mesh.specs.declared.shape.Shape.{Shape}
 use Rattle.mesh.specs.declared.refusal.Refusal.{Refusal}
 use Rattle.mesh.specs.declared.refusal.Refusal.the-variants.{WrongSize, ShortMemory}
+use Rattle.mesh.specs.declared.right.Right.{Right}
 use Rattle.mesh.specs.declared.right.Right.the-variants.{Empty}
 use Rattle.mesh.specs.declared.row.Choice.the-variants.{Blank, Undecided}
 use Rattle.mesh.specs.Kind.{Kind}
 use Rattle.mesh.specs.Table.{InRange}
-use Rattle.flow.specs.Flow.{In}
+use Rattle.flow.specs.Flow.{In, placed, Ring, OnRing}
+use Rattle.flow.specs.Order.{FlowOrder}
 use Rattle.planner.specs.declared.calls.Lent.{Lent}
 use Rattle.planner.specs.declared.calls.Answer.{Answer}
 use Rattle.planner.specs.declared.walk.Outcome.{Outcome}
@@ -32,6 +36,7 @@ use Rattle.planner.specs.Walk.{Decision, keep, Node, Place, at, begun, Visit, 
 use Rattle.planner.specs.Search.{Decides, markOf, isRevoke, choicesOf, ringQuestion}
 use Rattle.planner.specs.Ledger.{Search, Ledger, book, searching, slotsOf, rowIn, isVacant, isEmpty, openRefusal, opened, Run}
 use Rattle.planner.specs.Law.{Law}
+use Rattle.planner.specs.FlowTests.{hasRing, onRing, isOrder}
 use Rattle.planner.specs.Computed.{run}
 
 pub record EndsWithin {W : Type 0} (k : Kind W) (s : Shape) (xs : List (Slot W)) (ds : List ℕ) (most : ℕ) : Type 0 where
@@ -85,6 +90,17 @@ pub record OpenFits (devices points lent : ℕ) : Type 0 where
 
 abbrev pub OpensFit : Type 0
 OpensFit = (devices points lent : ℕ) → OpenFits devices points lent
+
+-- over the rights rs, listed row by row, of a table
+pub record TestAnswers (s : Shape) (rs : List Right) : Type 0 where
+  pub ring : T (hasRing s (placed s rs)) → Ring (placed s rs)
+  pub ring-found : Ring (placed s rs) → T (hasRing s (placed s rs))
+  pub on-ring : (d p : ℕ) → T (onRing s (placed s rs) d p) → OnRing (placed s rs) d p
+  pub on-ring-found : (d p : ℕ) → OnRing (placed s rs) d p → T (onRing s (placed s rs) d p)
+  pub order : (xs : List ℕ) → T (isOrder s (placed s rs) xs) → FlowOrder (placed s rs) (s .devices) xs
+
+abbrev pub TestsAnswer : Type 0
+TestsAnswer = (s : Shape) (rs : List Right) → TestAnswers s rs
 
 abbrev pub RunsObey : {W : Type 0} → Kind W → Type 0
 RunsObey {W} k = (s : Shape) (cs : List Lent) (answers : List (Answer W)) (last : Ledger W) → Run k s (opened s) cs answers last → Law k s cs answers last

@@ -22,15 +22,18 @@ use Rattle.planner.specs.declared.walk.Condition.the-variants.{Descending, Ret
 use Rattle.planner.specs.declared.walk.Outcome.{Outcome}
 use Rattle.planner.specs.declared.walk.Outcome.the-variants as by
 
+-- what a node chooses for a grant
 pub data Decision : Type 0 where
   keep revoke : Decision
 
 abbrev pub Node : Type 0
 Node = List Decision
 
+-- what the walk asks of a node
 pub record Question (W : Type 0) : Type 1 where
+  -- what the grants that the node revokes weigh
   pub weight : Node → W
-  -- the grants that the node keeps make it hopeless, whatever is chosen for the others
+  -- the grants that the node keeps are wrong by themselves, whatever is chosen for the others
   pub Hopeless : Node → Type 0
   -- with all further grants kept, the node is an answer
   pub Solved : Node → Type 0
@@ -55,6 +58,7 @@ at n b = record { next = n; best = b }
 abbrev pub begun : Place
 begun = at (Some []) None
 
+-- the four tests in turn: each case says that the tests before its own fail
 pub data Visit {W : Type 0} (k : Kind W) (q : Question W) (n : Node) (b : Option Node) : Outcome → Place → Type 0 where
   no-less : NoLess k q b n → Visit k q n b by.NoLess (at (after n) b)
   hopeless-node : (NoLess k q b n → ⊥) → q .Hopeless n → Visit k q n b by.Hopeless (at (after n) b)
@@ -78,11 +82,13 @@ condition (Some []) = Descending
 condition (Some (keep ∷ n)) = Descending
 condition (Some (revoke ∷ n)) = Returning
 
+-- a keep is left to turn
 abbrev pub hasKeep : Node → Bool
 hasKeep [] = false
 hasKeep (keep ∷ n) = true
 hasKeep (revoke ∷ n) = hasKeep n
 
+-- the test closes the node
 abbrev pub closed : Outcome → Bool
 closed by.NoLess = true
 closed by.Hopeless = true

@@ -1,5 +1,5 @@
 // What is proved of every walk and every run, for every weight kind: each function's contract is the theorem.
-ghost use Rattle.planner.specs.Theorems.{OpensFit, RowsShow, RunsAreTold, RunsObey, Settles, WalksEnd};
+ghost use Rattle.planner.specs.Theorems.{OpensFit, RowsShow, RunsAreTold, RunsObey, Settles, TestsAnswer, WalksEnd};
 ghost use Rattle.mesh.specs.Kind.{Lawful};
 ghost use Rattle.planner.specs.Tried.{Tried};
 ghost use Rattle.planner.specs.WrongPlanners.{WrongPlanners, level};
@@ -27,6 +27,11 @@ pub fn rows_show<W: Weight>()
 // When an open is refused, and with which number.
 pub fn opens_fit()
     ensures opens { λ _. ⌜ OpensFit ⌝ }
+{}
+
+// The ring tests that compute answer the propositions.
+pub fn tests_answer()
+    ensures tests { λ _. ⌜ TestsAnswer ⌝ }
 {}
 
 // Every run of calls from an opened book obeys the law.
