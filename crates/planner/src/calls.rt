@@ -26,14 +26,14 @@ pub struct Lent {
 }
 
 // Whether a write replaced a standing grant.
-#[derive(Clone, Copy, PartialEq, Eq)]
+#[derive(Clone, Copy, PartialEq, Eq, Debug)]
 pub enum Written {
     Replaced,
     Fresh,
 }
 
 // The visits that a search has made so far, and whether its walk has ended.
-#[derive(Clone, Copy, PartialEq, Eq)]
+#[derive(Clone, Copy, PartialEq, Eq, Debug)]
 pub struct Progress {
     pub visits: u64,
     pub ended: bool,

@@ -3,7 +3,7 @@ ghost use mathlib.Core.Path.{_≡_};
 ghost use Rattle.planner.specs.Walk.{settled};
 
 // `Returning` means that the node to be visited next ends in a revoke; `Ended` that no node is left.
-#[derive(Clone, Copy, PartialEq, Eq)]
+#[derive(Clone, Copy, PartialEq, Eq, Debug)]
 pub enum Condition {
     Descending,
     Returning,
@@ -11,7 +11,7 @@ pub enum Condition {
 }
 
 // Which of the four tests, taken in turn, settles a visit. The first three close the node.
-#[derive(Clone, Copy, PartialEq, Eq)]
+#[derive(Clone, Copy, PartialEq, Eq, Debug)]
 pub enum Outcome {
     // a best plan is known, and the node's revoked grants do not weigh less
     NoLess,

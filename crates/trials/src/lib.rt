@@ -5,4 +5,6 @@ pub mod steps;
 #[cfg(test)]
 mod tables;
 #[cfg(test)]
+mod walks;
+#[cfg(test)]
 mod weights;
