@@ -221,6 +221,10 @@ module _ {W : Type 0} (k : Kind W) (law : Lawful k) (s : Shape) (xs : List (Slot
       reader : (x y : ℕ) → Steps r x y → (h : Source (rightsIn s (without (revoked ds n) xs)) x y) → not (kept ds n (rowOf s y (h .point))) ≡ false
       reader x y adj h = stays (rowOf s y (h .point)) (decides .all y (h .point) (on-it x y adj h y (inr refl))) (rest-stands s xs canRead refl (revoked ds n) y (h .point) (h .read))
 
+  -- so a node that decides every grant is hopeless or solved
+  full : (n : Node) → length n ≡ length ds → (Ring (rightsIn s (only (kept ds n) xs)) → ⊥) → Ring (rightsIn s (without (revoked ds n) xs)) → ⊥
+  full n e good ring = good (ring-of-kept n e ring)
+
   -- the sets of grants whose removal leaves no ring, as answers to the question
   ringAnswers : Answers k (ringQuestion k s xs ds) (length ds)
   ringAnswers = record {
@@ -230,29 +234,29 @@ module _ {W : Type 0} (k : Kind W) (law : Lawful k) (s : Shape) (xs : List (Slot
     Solves = λ r. Ring (rightsIn s (without r xs)) → ⊥;
     hopeless = λ n r bad e solves. solves (ring-remains n r bad e);
     cheaper = part-of;
-    full = λ n e good ring. good (ring-of-kept n e ring);
+    full = full;
   }
 
   pub few : {v : ℕ} {p : Place} → Walked k (ringQuestion k s xs ds) v begun p → v ≤ 2 ^ (length ds + 1) - 1
-  few w = few-visits k (ringQuestion k s xs ds) (length ds) (λ n e good ring. good (ring-of-kept n e ring)) w
+  few w = few-visits k (ringQuestion k s xs ds) (length ds) full w
 
-  -- the next node has a choice for some of the grants to decide, and the best plan holds none but these
+  -- no node has more choices than there are grants to decide, and the best plan holds none but these
   pub next-fits : {v : ℕ} {p : Place} → Walked k (ringQuestion k s xs ds) v begun p → length (choicesOf (p .next)) ≤ length ds
-  next-fits {p = p} w = go (p .next) (place-good k (ringQuestion k s xs ds) (length ds) (λ n e good ring. good (ring-of-kept n e ring)) w .0)
+  next-fits {p = p} w = go (p .next) (place-good k (ringQuestion k s xs ds) (length ds) full w .0)
     where
-      go : (n : Option Node) → Fits k (ringQuestion k s xs ds) (length ds) (λ m e good ring. good (ring-of-kept m e ring)) n → length (choicesOf n) ≤ length ds
+      go : (n : Option Node) → Fits (length ds) n → length (choicesOf n) ≤ length ds
       go None f = omega arith
       go (Some n) f = f
 
   pub best-fits : {v : ℕ} {p : Place} → Walked k (ringQuestion k s xs ds) v begun p → (b : Node) → p .best ≡ Some b → length b ≤ length ds
   best-fits {p = p} w b e =
-      subst (Good k (ringQuestion k s xs ds) (length ds) (λ m f good ring. good (ring-of-kept m f ring))) e
-      (place-good k (ringQuestion k s xs ds) (length ds) (λ m f good ring. good (ring-of-kept m f ring)) w .1) .0
+      subst (Good (ringQuestion k s xs ds) (length ds)) e
+      (place-good k (ringQuestion k s xs ds) (length ds) full w .1) .0
 
   pub held-in : {v : ℕ} {p : Place} → Walked k (ringQuestion k s xs ds) v begun p → (i : ℕ) → T (secondMark ds (p .best) i) → In i ds
-  held-in {p = p} w i = go (p .best) (place-good k (ringQuestion k s xs ds) (length ds) (λ n e good ring. good (ring-of-kept n e ring)) w .1)
+  held-in {p = p} w i = go (p .best) (place-good k (ringQuestion k s xs ds) (length ds) full w .1)
     where
-      go : (b : Option Node) → Good k (ringQuestion k s xs ds) (length ds) (λ m e good ring. good (ring-of-kept m e ring)) b → T (secondMark ds b i) → In i ds
+      go : (b : Option Node) → Good (ringQuestion k s xs ds) (length ds) b → T (secondMark ds b i) → In i ds
       go None g h = absurd h
       go (Some b) g h = revoked-in ds b i (g .0) h
 
@@ -265,10 +269,10 @@ module _ {W : Type 0} (k : Kind W) (law : Lawful k) (s : Shape) (xs : List (Slot
   -- a walk that has ended has a best plan, an answer that weighs at most every other
   pub planned : {v : ℕ} (p : Place) → Walked k (ringQuestion k s xs ds) v begun p → p .next ≡ None → (n : Node) × (p .best ≡ Some n) × Planned n
   unfolding ringAnswers
-  planned p w e = go (p .best) refl (place-good k (ringQuestion k s xs ds) (length ds) (ringAnswers .full) w .1) (ended-cheapest k law (ringQuestion k s xs ds) (length ds) ringAnswers w e)
+  planned p w e = go (p .best) refl (place-good k (ringQuestion k s xs ds) (length ds) full w .1) (ended-cheapest k law (ringQuestion k s xs ds) (length ds) ringAnswers w e)
     where
-      go : (b : Option Node) → p .best ≡ b → Good k (ringQuestion k s xs ds) (length ds) (ringAnswers .full) b
-          → ((r : RowSet) → (Ring (rightsIn s (without r xs)) → ⊥) → Matched k law (ringQuestion k s xs ds) (length ds) ringAnswers b r) → (n : Node) × (p .best ≡ Some n) × Planned n
+      go : (b : Option Node) → p .best ≡ b → Good (ringQuestion k s xs ds) (length ds) b
+          → ((r : RowSet) → (Ring (rightsIn s (without r xs)) → ⊥) → Matched ringAnswers b r) → (n : Node) × (p .best ≡ Some n) × Planned n
       go None q g c = absurd (c (λ _. true) (none-left s xs))
       go (Some n) q g c = (n, q, record { short = g .0; ringless = g .1; cheapest = c })
 

@@ -56,31 +56,31 @@ pub record Answers {W : Type 0} (k : Kind W) (q : Question W) (size : ℕ) : Typ
   pub cheaper : (n : Node) (r : Answer) → Extends (revokes r) n → T (k .atMost (q .weight n) (weight r))
   pub full : (n : Node) → length n ≡ size → (q .Hopeless n → ⊥) → q .Solved n
 
-module _ {W : Type 0} (k : Kind W) (law : Lawful k) (q : Question W) (size : ℕ) (f : Answers k q size) where
-  -- the best plan weighs at most the answer
-  abbrev pub Matched : Option Node → f .Answer → Type 0
-  Matched None r = ⊥
-  Matched (Some b) r = T (k .atMost (q .weight b) (f .weight r))
+-- the best plan weighs at most the answer
+abbrev pub Matched : {W : Type 0} {k : Kind W} {q : Question W} {size : ℕ} (f : Answers k q size) → Option Node → f .Answer → Type 0
+Matched f None r = ⊥
+Matched {k = k} {q = q} f (Some b) r = T (k .atMost (q .weight b) (f .weight r))
 
+module _ {W : Type 0} (k : Kind W) (law : Lawful k) (q : Question W) (size : ℕ) (f : Answers k q size) where
   -- no answer is lost: it lies ahead, or the best plan weighs at most it
   abbrev pub Covers : Place → Type 0
-  Covers p = (r : f .Answer) → f .Solves r → Ahead (f .revokes r) (p .next) ⊎ Matched (p .best) r
+  Covers p = (r : f .Answer) → f .Solves r → Ahead (f .revokes r) (p .next) ⊎ Matched f (p .best) r
 
   covers-begun : Covers begun
   covers-begun r h = inl (inl tt)
 
   -- a closed node hands on what comes later, if the best plan matches all that extends it
-  closes : (n : Node) (b b′ : Option Node) (r : f .Answer) → (Extends (f .revokes r) n → Matched b′ r) → (Matched b r → Matched b′ r)
-      → Ahead (f .revokes r) (Some n) ⊎ Matched b r → Ahead (f .revokes r) (after n) ⊎ Matched b′ r
+  closes : (n : Node) (b b′ : Option Node) (r : f .Answer) → (Extends (f .revokes r) n → Matched f b′ r) → (Matched f b r → Matched f b′ r)
+      → Ahead (f .revokes r) (Some n) ⊎ Matched f b r → Ahead (f .revokes r) (after n) ⊎ Matched f b′ r
   closes n b b′ r here old (inl (inl e)) = inr (here e)
   closes n b b′ r here old (inl (inr l)) = inl (later-after (f .revokes r) n l)
   closes n b b′ r here old (inr m) = inr (old m)
 
-  dear : (n : Node) (b : Option Node) (r : f .Answer) → NoLess k q b n → Extends (f .revokes r) n → Matched b r
+  dear : (n : Node) (b : Option Node) (r : f .Answer) → NoLess k q b n → Extends (f .revokes r) n → Matched f b r
   dear n None r h e = absurd h
   dear n (Some b) r h e = law .transitive (q .weight b) (q .weight n) (f .weight r) h (f .cheaper n r e)
 
-  bettered : (n : Node) (b : Option Node) (r : f .Answer) → (NoLess k q b n → ⊥) → Matched b r → Matched (Some n) r
+  bettered : (n : Node) (b : Option Node) (r : f .Answer) → (NoLess k q b n → ⊥) → Matched f b r → Matched f (Some n) r
   bettered n None r h m = absurd m
   bettered n (Some b) r h m =
       elim (law .total (q .weight n) (q .weight b)) [
@@ -107,22 +107,22 @@ module _ {W : Type 0} (k : Kind W) (law : Lawful k) (q : Question W) (size : ℕ
   walk-covers (visit h w) c = walk-covers w (visit-covers h c)
 
   -- once no node is left, the best plan weighs at most every answer
-  pub ended-cheapest : {v : ℕ} {p : Place} → Walked k q v begun p → p .next ≡ None → (r : f .Answer) → f .Solves r → Matched (p .best) r
+  pub ended-cheapest : {v : ℕ} {p : Place} → Walked k q v begun p → p .next ≡ None → (r : f .Answer) → f .Solves r → Matched f (p .best) r
   ended-cheapest w e r s = elim (walk-covers w covers-begun r s) [ inl a ↦ absurd (subst (Ahead (f .revokes r)) e a) | inr m ↦ m ]
 
 -- ---- what holds of every place of the walk
 
+-- a node has no more choices than there are grants to decide, and the best plan is an answer
+abbrev pub Fits : ℕ → Option Node → Type 0
+Fits size None = Unit {0}
+Fits size (Some n) = length n ≤ size
+
+abbrev pub Good : {W : Type 0} → Question W → ℕ → Option Node → Type 0
+Good q size None = Unit {0}
+Good q size (Some b) = (length b ≤ size) × q .Solved b
+
 module _ {W : Type 0} (k : Kind W) (q : Question W) (size : ℕ) (full : (n : Node) → length n ≡ size → (q .Hopeless n → ⊥) → q .Solved n) where
-  -- a node has no more choices than there are grants to decide, and the best plan is an answer
-  abbrev pub Fits : Option Node → Type 0
-  Fits None = Unit {0}
-  Fits (Some n) = length n ≤ size
-
-  abbrev pub Good : Option Node → Type 0
-  Good None = Unit {0}
-  Good (Some b) = (length b ≤ size) × q .Solved b
-
-  fits-after : (n : Node) → length n ≤ size → Fits (after n)
+  fits-after : (n : Node) → length n ≤ size → Fits size (after n)
   fits-after [] h = tt
   fits-after (keep ∷ n) h = h
   fits-after (revoke ∷ n) h = fits-after n (omega arith)
@@ -131,17 +131,17 @@ module _ {W : Type 0} (k : Kind W) (q : Question W) (size : ℕ) (full : (n : No
   fits-deeper : (n : Node) → (q .Hopeless n → ⊥) → (q .Solved n → ⊥) → length n ≤ size → length n < size
   fits-deeper n h u l = elim (cases-lt (length n) (size)) [ inl lt ↦ lt | inr ge ↦ absurd (u (full n (omega arith) h)) ]
 
-  visit-good : {n : Node} {b : Option Node} {t : Outcome} {p : Place} → Visit k q n b t p → Fits (Some n) → Good b → Fits (p .next) × Good (p .best)
+  visit-good : {n : Node} {b : Option Node} {t : Outcome} {p : Place} → Visit k q n b t p → Fits size (Some n) → Good q size b → Fits size (p .next) × Good q size (p .best)
   visit-good {n} (no-less h) f g = (fits-after n f, g)
   visit-good {n} (hopeless-node h bad) f g = (fits-after n f, g)
   visit-good {n} (best-plan h ok solved) f g = (fits-after n f, (f, solved))
   visit-good {n} (open-node h ok unsolved) f g = (fits-deeper n ok unsolved f, g)
 
-  walk-good : {v : ℕ} {p p′ : Place} → Walked k q v p p′ → Fits (p .next) → Good (p .best) → Fits (p′ .next) × Good (p′ .best)
+  walk-good : {v : ℕ} {p p′ : Place} → Walked k q v p p′ → Fits size (p .next) → Good q size (p .best) → Fits size (p′ .next) × Good q size (p′ .best)
   walk-good stay f g = (f, g)
   walk-good (visit h w) f g = let on = visit-good h f g in walk-good w (on .0) (on .1)
 
-  pub place-good : {v : ℕ} {p : Place} → Walked k q v begun p → Fits (p .next) × Good (p .best)
+  pub place-good : {v : ℕ} {p : Place} → Walked k q v begun p → Fits size (p .next) × Good q size (p .best)
   place-good w = walk-good w (omega arith) tt
 
   -- ---- how many visits are left
