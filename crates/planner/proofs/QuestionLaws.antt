@@ -21,7 +21,7 @@ use Rattle.mesh.specs.Table.{rowOf}
 use Rattle.flow.specs.Flow.{Rights, Source, In, Chain, Ring, Adjacent, OnRing}
 use Rattle.planner.specs.Grants.{Slot, RowSet, rightsIn, without, only, weightOf}
 use Rattle.planner.specs.Walk.{Decision, Node, keep, revoke, Place, begun, Walked}
-use Rattle.planner.specs.Search.{Decides, markOf, choiceOf, isKeep, isRevoke, kept, revoked, choicesOf, secondMark, ringQuestion}
+use Rattle.planner.specs.Search.{Decides, choiceOf, isKeep, isRevoke, kept, revoked, choicesOf, secondMark, ringQuestion}
 use Rattle.planner.specs.Ledger.{isVacant}
 use Rattle.planner.proofs.TestLaws.{holds, fails, is-true}
 use Rattle.planner.proofs.GrantLaws.{rowRight, row-without, part-weighs}
@@ -150,7 +150,7 @@ module _ (ds : List ℕ) where
   decided (c ∷ n) j h = go c (eqb (getD ds j 0) (getD ds (length n) 0)) refl (λ l. decided n j l) (cases-lt j (length n))
     where
       go : (c′ : Decision) (b : Bool) → eqb (getD ds j 0) (getD ds (length n) 0) ≡ b → (j < length n → T (kept ds n (getD ds j 0)) ⊎ T (revoked ds n (getD ds j 0))) → (j < length n) ⊎ (length n ≤ j)
-          → T (isKeep (cond b (markOf c′) (choiceOf ds n (getD ds j 0)))) ⊎ T (isRevoke (cond b (markOf c′) (choiceOf ds n (getD ds j 0))))
+          → T (isKeep (cond b (Some c′) (choiceOf ds n (getD ds j 0)))) ⊎ T (isRevoke (cond b (Some c′) (choiceOf ds n (getD ds j 0))))
       go keep true e on w = inl tt
       go revoke true e on w = inr tt
       go c′ false e on (inl l) = on l
@@ -161,7 +161,7 @@ module _ (ds : List ℕ) where
   revoked-in [] i l h = absurd h
   revoked-in (c ∷ n) i l h = go (eqb i (getD ds (length n) 0)) refl (λ k. revoked-in n i (omega arith) k) h
     where
-      go : (b : Bool) → eqb i (getD ds (length n) 0) ≡ b → (T (revoked ds n i) → In i ds) → T (isRevoke (cond b (markOf c) (choiceOf ds n i))) → In i ds
+      go : (b : Bool) → eqb i (getD ds (length n) 0) ≡ b → (T (revoked ds n i) → In i ds) → T (isRevoke (cond b (Some c) (choiceOf ds n i))) → In i ds
       go true e on k = subst (λ x. In x ds) (sym (eqb-true i (getD ds (length n) 0) e)) (at-in ds (length n) l)
       go false e on k = on k
 
@@ -171,7 +171,7 @@ module _ (ds : List ℕ) where
   extended r (c ∷ n) i e = go c (eqb i (getD ds (length n) 0)) refl (e .0) (extended r n i (e .1))
     where
       go : (c′ : Decision) (b : Bool) → eqb i (getD ds (length n) 0) ≡ b → r (getD ds (length n) 0) ≡ revoking c′ → (T (kept ds n i) → r i ≡ false) × (T (revoked ds n i) → r i ≡ true)
-          → (T (isKeep (cond b (markOf c′) (choiceOf ds n i))) → r i ≡ false) × (T (isRevoke (cond b (markOf c′) (choiceOf ds n i))) → r i ≡ true)
+          → (T (isKeep (cond b (Some c′) (choiceOf ds n i))) → r i ≡ false) × (T (isRevoke (cond b (Some c′) (choiceOf ds n i))) → r i ≡ true)
       go keep true q f on = ((λ h. ap r (eqb-true i (getD ds (length n) 0) q) ∙ f), λ h. absurd h)
       go revoke true q f on = ((λ h. absurd h), λ h. ap r (eqb-true i (getD ds (length n) 0) q) ∙ f)
       go c′ false q f on = on

@@ -45,28 +45,28 @@ rises (d ∷ ds) r (suc i) (suc j) l h = rises ds (r .1) i j (le-of-suc-le-suc l
 
 module _ (ds : List ℕ) (r : Rising ds) where
   -- the newest choice is for the grant at the position length n, and for no other
-  newest : (c : Decision) (n : Node) → choiceOf ds (c ∷ n) (getD ds (length n) 0) ≡ markOf c
-  newest c n = ap (λ b. cond b (markOf c) (choiceOf ds n (getD ds (length n) 0))) (eq-eqb (getD ds (length n) 0) (getD ds (length n) 0) refl)
+  newest : (c : Decision) (n : Node) → choiceOf ds (c ∷ n) (getD ds (length n) 0) ≡ Some c
+  newest c n = ap (λ b. cond b (Some c) (choiceOf ds n (getD ds (length n) 0))) (eq-eqb (getD ds (length n) 0) (getD ds (length n) 0) refl)
 
   older : (c : Decision) (n : Node) (j : ℕ) → (getD ds j 0 ≡ getD ds (length n) 0 → ⊥) → choiceOf ds (c ∷ n) (getD ds j 0) ≡ choiceOf ds n (getD ds j 0)
-  older c n j ne = ap (λ b. cond b (markOf c) (choiceOf ds n (getD ds j 0))) (ne-eqb (getD ds j 0) (getD ds (length n) 0) ne)
+  older c n j ne = ap (λ b. cond b (Some c) (choiceOf ds n (getD ds j 0))) (ne-eqb (getD ds j 0) (getD ds (length n) 0) ne)
 
-  choice-at : (n : Node) → length n ≤ length ds → (j : ℕ) → j < length n → choiceOf ds n (getD ds j 0) ≡ markOf (getD (inOrder n) j keep)
+  choice-at : (n : Node) → length n ≤ length ds → (j : ℕ) → j < length n → choiceOf ds n (getD ds j 0) ≡ Some (getD (inOrder n) j keep)
   choice-at [] l j h = absurd (not-suc-le-zero h)
   choice-at (c ∷ n) l j h = go (choice-at n (omega arith) j) (cases-lt j (length n))
     where
-      go : (j < length n → choiceOf ds n (getD ds j 0) ≡ markOf (getD (inOrder n) j keep)) → (j < length n) ⊎ (length n ≤ j)
-          → choiceOf ds (c ∷ n) (getD ds j 0) ≡ markOf (getD (inOrder n ++ (c ∷ [])) j keep)
+      go : (j < length n → choiceOf ds n (getD ds j 0) ≡ Some (getD (inOrder n) j keep)) → (j < length n) ⊎ (length n ≤ j)
+          → choiceOf ds (c ∷ n) (getD ds j 0) ≡ Some (getD (inOrder n ++ (c ∷ [])) j keep)
       go on (inl lt) =
           let long = length-in-order n in
           let low = rises ds r j (length n) lt (omega arith) in
-          older c n j (λ e. omega arith) ∙ on lt ∙ sym (ap markOf (getD-append-left (inOrder n) (c ∷ []) keep j (omega arith)))
+          older c n j (λ e. omega arith) ∙ on lt ∙ sym (ap Some (getD-append-left (inOrder n) (c ∷ []) keep j (omega arith)))
       go on (inr ge) =
           let long = length-in-order n in
           let e : j ≡ length n = omega arith in
-          ap (λ i. choiceOf ds (c ∷ n) (getD ds i 0)) e ∙ newest c n ∙ sym (ap markOf (getD-at (inOrder n) c [] keep j (omega arith)))
+          ap (λ i. choiceOf ds (c ∷ n) (getD ds i 0)) e ∙ newest c n ∙ sym (ap Some (getD-at (inOrder n) c [] keep j (omega arith)))
 
-  choice-none : (n : Node) (j : ℕ) → length n ≤ j → j < length ds → choiceOf ds n (getD ds j 0) ≡ Undecided
+  choice-none : (n : Node) (j : ℕ) → length n ≤ j → j < length ds → choiceOf ds n (getD ds j 0) ≡ None
   choice-none [] j l h = refl
   choice-none (c ∷ n) j l h =
       let high = rises ds r (length n) j (omega arith) h in
@@ -79,21 +79,21 @@ out-false : (i : ℕ) (ds : List ℕ) → (In i ds → ⊥) → isIn i ds ≡ fa
 out-false i ds n = is-false (isIn i ds) (λ t. n (test-in i ds t))
 
 -- a row to decide has the choice of the node, and another is blank
-mark-in : (ds : List ℕ) (next : Option Node) (j : ℕ) → j < length ds → firstMark ds next (getD ds j 0) ≡ choiceOf ds (choicesOf next) (getD ds j 0)
-mark-in ds next j h = ap (λ b. cond b (choiceOf ds (choicesOf next) (getD ds j 0)) Blank) (in-true (getD ds j 0) ds (at-in ds j h))
+mark-in : (ds : List ℕ) (next : Option Node) (j : ℕ) → j < length ds → firstMark ds next (getD ds j 0) ≡ markOf (choiceOf ds (choicesOf next) (getD ds j 0))
+mark-in ds next j h = ap (λ b. cond b (markOf (choiceOf ds (choicesOf next) (getD ds j 0))) Blank) (in-true (getD ds j 0) ds (at-in ds j h))
 
 mark-out : (ds : List ℕ) (next : Option Node) (i : ℕ) → (In i ds → ⊥) → firstMark ds next i ≡ Blank
-mark-out ds next i n = ap (λ b. cond b (choiceOf ds (choicesOf next) i) Blank) (out-false i ds n)
+mark-out ds next i n = ap (λ b. cond b (markOf (choiceOf ds (choicesOf next) i)) Blank) (out-false i ds n)
 
 -- the best plan holds the rows that its choices revoke
-held-at : (ds : List ℕ) → Rising ds → (b : Node) → length b ≤ length ds → (j : ℕ) → j < length ds → revoked ds b (getD ds j 0) ≡ isRevoke (markOf (getD (inOrder b) j keep))
+held-at : (ds : List ℕ) → Rising ds → (b : Node) → length b ≤ length ds → (j : ℕ) → j < length ds → revoked ds b (getD ds j 0) ≡ isRevoke (Some (getD (inOrder b) j keep))
 held-at ds r b l j h = go (cases-lt j (length b))
   where
-    go : (j < length b) ⊎ (length b ≤ j) → revoked ds b (getD ds j 0) ≡ isRevoke (markOf (getD (inOrder b) j keep))
+    go : (j < length b) ⊎ (length b ≤ j) → revoked ds b (getD ds j 0) ≡ isRevoke (Some (getD (inOrder b) j keep))
     go (inl lt) = ap isRevoke (choice-at ds r b l j lt)
     go (inr ge) =
         let long = length-in-order b in
-        ap isRevoke (choice-none ds r b j ge h) ∙ sym (ap (λ c. isRevoke (markOf c)) (getD-past (inOrder b) j keep (omega arith)))
+        ap isRevoke (choice-none ds r b j ge h) ∙ sym (ap (λ c. isRevoke (Some c)) (getD-past (inOrder b) j keep (omega arith)))
 
 module _ {W : Type 0} (k : Kind W) (law : Lawful k) (s : Shape) where
   marked : (xs : List (Slot W)) (q : Search W) → Searching k s xs q → Marked k (searching xs q) q (inOrder (choicesOf (q .place .next)))
@@ -104,8 +104,8 @@ module _ {W : Type 0} (k : Kind W) (law : Lawful k) (s : Shape) where
       let fits = next-fits k law s (q .slots) ds (h .decides) (h .walked) in
       let long = length-in-order n in
       record {
-        chosen = λ j l. mark-in ds (q .place .next) j (omega arith) ∙ choice-at ds rising n fits j (omega arith);
-        undecided = λ j g l. mark-in ds (q .place .next) j l ∙ choice-none ds rising n j (omega arith) l;
+        chosen = λ j l. mark-in ds (q .place .next) j (omega arith) ∙ ap markOf (choice-at ds rising n fits j (omega arith));
+        undecided = λ j g l. mark-in ds (q .place .next) j l ∙ ap markOf (choice-none ds rising n j (omega arith) l);
         held = λ j b l e. ap (λ x. secondMark ds x (getD ds j 0)) e ∙ held-at ds rising b (best-fits k law s (q .slots) ds (h .decides) (h .walked) b e) j l;
         none-held = λ i e. ap (λ x. secondMark ds x i) e;
         blank = λ i out. (mark-out ds (q .place .next) i out, is-false (secondMark ds (q .place .best) i) (λ t. out (held-in k law s (q .slots) ds (h .decides) (h .walked) i t)));

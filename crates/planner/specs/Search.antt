@@ -1,6 +1,6 @@
 -- The question that the search asks of a table, and the marks that a place of its walk stands for.
 --     Decides s xs ds          ds are the rows of the grants that lie on a ring, in row order
---     choiceOf ds n i          the node's choice for row i, undecided where it has none
+--     choiceOf ds n i          the node's choice for row i, if it has one
 --     kept, revoked ds n       the rows that the node decides to keep, and to revoke
 --     ringQuestion k s xs ds   hopeless: the kept grants hold a ring by themselves; solved: all but the revoked ones hold none
 --     firstMark ds n i         the first mark of row i where n is to be visited next: blank where the row is not to decide
@@ -32,27 +32,21 @@ pub record Decides {W : Type 0} (s : Shape) (xs : List (Slot W)) (ds : List ℕ)
   pub all : (d p : ℕ) → OnRing (rightsIn s xs) d p → In (rowOf s d p) ds
   pub none-else : (i : ℕ) → In i ds → (d : ℕ) × (p : ℕ) × (i ≡ rowOf s d p) × OnRing (rightsIn s xs) d p
 
--- a choice, as a mark
-abbrev pub markOf : Decision → Choice
-markOf keep = Keep
-markOf revoke = Revoke
-
 -- the newest choice is for the grant that comes after those of the other choices
-abbrev pub choiceOf : List ℕ → Node → ℕ → Choice
-choiceOf ds [] i = Undecided
-choiceOf ds (c ∷ n) i = cond (eqb i (getD ds (length n) 0)) (markOf c) (choiceOf ds n i)
+abbrev pub choiceOf : List ℕ → Node → ℕ → Option Decision
+choiceOf ds [] i = None
+choiceOf ds (c ∷ n) i = cond (eqb i (getD ds (length n) 0)) (Some c) (choiceOf ds n i)
 
-abbrev pub isKeep : Choice → Bool
-isKeep Blank = false
-isKeep Undecided = false
-isKeep Keep = true
-isKeep Revoke = false
+-- a choice is keep; it is revoke
+abbrev pub isKeep : Option Decision → Bool
+isKeep None = false
+isKeep (Some keep) = true
+isKeep (Some revoke) = false
 
-abbrev pub isRevoke : Choice → Bool
-isRevoke Blank = false
-isRevoke Undecided = false
-isRevoke Keep = false
-isRevoke Revoke = true
+abbrev pub isRevoke : Option Decision → Bool
+isRevoke None = false
+isRevoke (Some keep) = false
+isRevoke (Some revoke) = true
 
 abbrev pub kept : List ℕ → Node → RowSet
 kept ds n i = isKeep (choiceOf ds n i)
@@ -77,8 +71,14 @@ abbrev pub choicesOf : Option Node → Node
 choicesOf None = []
 choicesOf (Some n) = n
 
+-- a choice, as a mark
+abbrev pub markOf : Option Decision → Choice
+markOf None = Undecided
+markOf (Some keep) = Keep
+markOf (Some revoke) = Revoke
+
 abbrev pub firstMark : List ℕ → Option Node → ℕ → Choice
-firstMark ds next i = cond (isIn i ds) (choiceOf ds (choicesOf next) i) Blank
+firstMark ds next i = cond (isIn i ds) (markOf (choiceOf ds (choicesOf next) i)) Blank
 
 abbrev pub secondMark : List ℕ → Option Node → ℕ → Bool
 secondMark ds None i = false

@@ -46,7 +46,7 @@ pub record Trial (W : Type 0) : Type 0 where
   pub order : List ℕ
 
 abbrev pub shaped : (devices points : ℕ) → T (leb 1 devices) → T (leb devices 64) → T (leb 1 points) → T (leb points 64) → Shape
-shaped d p d0 d1 p0 p1 = record { devices = d; points = p; «in_range» = (leb→le 1 d d0, leb→le d 64 d1, leb→le 1 p p0, leb→le p 64 p1) }
+shaped d p low high least most = record { devices = d; points = p; «in_range» = (leb→le 1 d low, leb→le d 64 high, leb→le 1 p least, leb→le p 64 most) }
 
 abbrev pub entry : ℕ → ℕ → Right → ℕ → Entry
 entry d p r a = record { device = d; point = p; right = r; amount = a }
