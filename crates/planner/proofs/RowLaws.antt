@@ -17,7 +17,7 @@ use Rattle.mesh.specs.declared.refusal.Refusal.the-variants.{WrongSize, ShortMe
 use Rattle.mesh.specs.declared.right.Right.the-variants.{Empty}
 use Rattle.mesh.specs.declared.shape.Shape.{Shape}
 use Rattle.std.specs.declared.option.Option.the-variants.{Some, None}
-use Rattle.mesh.specs.declared.row.Choice.the-variants.{Blank, Undecided}
+use Rattle.mesh.specs.declared.row.Choice.the-variants.{Blank}
 use Rattle.mesh.specs.Kind.{Kind, Lawful}
 use Rattle.mesh.specs.Table.{InRange}
 use Rattle.flow.specs.Flow.{In}

@@ -20,8 +20,9 @@ use Rattle.planner.specs.declared.calls.Answer.the-variants as says
 use Rattle.planner.specs.Grants.{Slot, RowSet, rightsIn, without, grantsIn, numberOf, standing}
 use Rattle.planner.specs.Search.{revoked}
 use Rattle.planner.specs.Ledger.{Search, Ledger, book, searching, slotsOf, slotAt, isVacant, isEmpty, tooFew, refusal, freshness, freshNumber, opened, started, Done, write, erase, read, start, advance, take, abandon, Told, misuse, refused, done, Run, none, then}
-use Rattle.planner.specs.Law.{came, went, began, total, Begun, Exact, Cheapest, Taking, Law}
+use Rattle.planner.specs.Law.{came, went, total, Cut, Origin, Exact, Cheapest, Taking, Law}
 use Rattle.planner.proofs.GrantLaws.{standing-without, standing-set}
+use Rattle.planner.proofs.TestLaws.{clash}
 use Rattle.planner.proofs.SoundLaws.{first-none, row-named, walk-ended, Sound, told-sound, run-sound, opened-sound}
 use Rattle.planner.proofs.QuestionLaws.{Planned, planned, revoked-stand}
 
@@ -73,50 +74,50 @@ none-stand W (suc n) = none-stand W n
 
 -- ---- a run, cut at one of its answers
 
-record Cut {W : Type 0} (k : Kind W) (s : Shape) (l : Ledger W) (cs : List Lent) (earlier : List (Answer W)) (a : Answer W) (later : List (Answer W)) (last : Ledger W) : Type 0 where
-  pub before : List Lent
-  pub call : Lent
-  pub rest : List Lent
-  pub calls : cs ≡ before ++ (call ∷ rest)
+-- with the ledgers at the cut
+record CutAt {W : Type 0} (k : Kind W) (s : Shape) (l : Ledger W) (cs : List Lent) (earlier : List (Answer W)) (a : Answer W) (later : List (Answer W)) (last : Ledger W) : Type 0 where
   pub from : Ledger W
   pub to : Ledger W
-  pub until : Run k s l before earlier from
-  pub here : Told k s from call a to
-  pub on : Run k s to rest later last
+  pub cut : Cut k s l cs earlier from a to later last
 
-cut : {W : Type 0} {k : Kind W} {s : Shape} {l last : Ledger W} {cs : List Lent} {answers : List (Answer W)} → Run k s l cs answers last
-    → (earlier : List (Answer W)) (a : Answer W) (later : List (Answer W)) → answers ≡ earlier ++ (a ∷ later) → Cut k s l cs earlier a later last
-cut none [] a later e = let l = ap length e in absurd (omega arith)
-cut none (x ∷ earlier) a later e = let l = ap length e in absurd (omega arith)
-cut {k = k} {s = s} {l = l} {last = last} (then {m = m} {c = c} {a = b} {cs = cs} {answers = answers} t r) [] a later e =
+-- one call before
+cut-before : {W : Type 0} {k : Kind W} {s : Shape} {l m from to last : Ledger W} {c : Lent} {b a : Answer W} {cs : List Lent} {earlier later : List (Answer W)}
+    → Told k s l c b m → Cut k s m cs earlier from a to later last → Cut k s l (c ∷ cs) (b ∷ earlier) from a to later last
+cut-before {c = c} t x = record {
+  before = c ∷ x .before;
+  call = x .call;
+  rest = x .rest;
+  calls = ap (λ cs. c ∷ cs) (x .calls);
+  until = then t (x .until);
+  here = x .here;
+  on = x .on;
+}
+
+cut-at : {W : Type 0} {k : Kind W} {s : Shape} {l last : Ledger W} {cs : List Lent} {answers : List (Answer W)} → Run k s l cs answers last
+    → (earlier : List (Answer W)) (a : Answer W) (later : List (Answer W)) → answers ≡ earlier ++ (a ∷ later) → CutAt k s l cs earlier a later last
+cut-at none [] a later e = let l = ap length e in absurd (omega arith)
+cut-at none (x ∷ earlier) a later e = let l = ap length e in absurd (omega arith)
+cut-at {k = k} {s = s} {l = l} {last = last} (then {m = m} {c = c} {a = b} {cs = cs} {answers = answers} t r) [] a later e =
     let same : b ≡ a = cc in
     let others : answers ≡ later = cc in
     record {
-      before = [];
-      call = c;
-      rest = cs;
-      calls = refl;
       from = l;
       to = m;
-      until = none;
-      here = subst (λ x. Told k s l c x m) same t;
-      on = subst (λ as′. Run k s m cs as′ last) others r;
+      cut = record {
+        before = [];
+        call = c;
+        rest = cs;
+        calls = refl;
+        until = none;
+        here = subst (λ x. Told k s l c x m) same t;
+        on = subst (λ as′. Run k s m cs as′ last) others r;
+      };
     }
-cut {k = k} {s = s} {l = l} (then {m = m} {c = c} {a = b} {answers = answers} t r) (x ∷ earlier) a later e =
+cut-at {k = k} {s = s} {l = l} (then {m = m} {c = c} {a = b} {answers = answers} t r) (x ∷ earlier) a later e =
     let same : b ≡ x = cc in
     let others : answers ≡ earlier ++ (a ∷ later) = cc in
-    let on = cut r earlier a later others in
-    record {
-      before = c ∷ on .before;
-      call = on .call;
-      rest = on .rest;
-      calls = ap (λ cs. c ∷ cs) (on .calls);
-      from = on .from;
-      to = on .to;
-      until = then (subst (λ y. Told k s l c y m) same t) (on .until);
-      here = on .here;
-      on = on .on;
-    }
+    let on = cut-at r earlier a later others in
+    record { from = on .from; to = on .to; cut = cut-before (subst (λ y. Told k s l c y m) same t) (on .cut) }
 
 -- ---- where a search started
 
@@ -125,69 +126,76 @@ abbrev Same : {W : Type 0} → Ledger W → Search W → Type 0
 Same (book ys) q = ⊥
 Same (searching ys m) q = (m .slots ≡ q .slots) × (m .rows ≡ q .rows)
 
+-- no search starts
+abbrev NoStart : {W : Type 0} → List (Answer W) → Type 0
+NoStart {W} answers = (as₁ as₂ : List (Answer W)) → answers ≡ as₁ ++ (says.Started ∷ as₂) → ⊥
+
+no-start-more : {W : Type 0} (a : Answer W) (answers : List (Answer W)) → (a ≡ says.Started → ⊥) → NoStart answers → NoStart (a ∷ answers)
+no-start-more a answers ne h [] as₂ e = ne (cc)
+no-start-more a answers ne h (x ∷ as₁) as₂ e = h as₁ as₂ (cc)
+
 module _ {W : Type 0} (k : Kind W) (s : Shape) where
-  -- one call before
-  begun-before : {l m : Ledger W} {c : Lent} {a : Answer W} {cs : List Lent} {answers : List (Answer W)} {xs : List (Slot W)} {q : Search W}
-      → Told k s l c a m → Begun k s m cs answers xs q → Begun k s l (c ∷ cs) (a ∷ answers) xs q
-  begun-before {c = c} {a = a} t b = record {
-    before = c ∷ b .before;
-    call = b .call;
-    rest = b .rest;
-    earlier = a ∷ b .earlier;
-    later = b .later;
-    calls = ap (λ cs. c ∷ cs) (b .calls);
-    told = ap (λ as′. a ∷ as′) (b .told);
-    until = then t (b .until);
-    here = b .here;
-    on = b .on;
-    last = b .last;
+  origin-before : {l m : Ledger W} {c : Lent} {a : Answer W} {cs : List Lent} {answers : List (Answer W)} {xs : List (Slot W)} {q : Search W}
+      → Told k s l c a m → Origin k s m cs answers xs q → Origin k s l (c ∷ cs) (a ∷ answers) xs q
+  origin-before {a = a} t o = record {
+    earlier = a ∷ o .earlier;
+    later = o .later;
+    answered = ap (λ as′. a ∷ as′) (o .answered);
+    cut = cut-before t (o .cut);
+    alone = o .alone;
   }
 
   -- a call after which the search is q: the search was q before it, or the call starts q
   abbrev Either : Ledger W → Lent → Answer W → List Lent → List (Answer W) → List (Slot W) → Search W → Type 0
-  Either l c a cs answers xs q = (Same l q × (began a + total began answers ≡ 0)) ⊎ Begun k s l (c ∷ cs) (a ∷ answers) xs q
+  Either l c a cs answers xs q = (Same l q × NoStart (a ∷ answers)) ⊎ Origin k s l (c ∷ cs) (a ∷ answers) xs q
 
-  begun-done : {l m : Ledger W} {call : Call} {a : Answer W} {c : Lent} {cs : List Lent} {answers : List (Answer W)} {xs : List (Slot W)} {q : Search W}
-      → Done k s l call a m → Told k s l c a m → Run k s m cs answers (searching xs q) → total began answers ≡ 0 → Same m q → Either l c a cs answers xs q
-  begun-done (advance moves) t r none-after same = inl (same, omega arith)
-  begun-done {c = c} {cs = cs} {answers = answers} {xs = xs} {q = q} (start {xs = ys} {ds = ds} d) t r none-after same = inr (record {
-    before = [];
-    call = c;
-    rest = cs;
+  origin-done : {l m : Ledger W} {call : Call} {a : Answer W} {c : Lent} {cs : List Lent} {answers : List (Answer W)} {xs : List (Slot W)} {q : Search W}
+      → Done k s l call a m → Told k s l c a m → Run k s m cs answers (searching xs q) → NoStart answers → Same m q → Either l c a cs answers xs q
+  origin-done {answers = answers} (advance moves) t r alone same = inl (same, no-start-more _ answers (λ e. clash (cc)) alone)
+  origin-done {c = c} {cs = cs} {answers = answers} {xs = xs} {q = q} (start {xs = ys} {ds = ds} d) t r alone same = inr (record {
     earlier = [];
     later = answers;
-    calls = refl;
-    told = refl;
-    until = subst (λ zs. Run k s (book ys) [] [] (book zs)) (same .0) none;
-    here =
-        subst (λ es. Told k s (book (q .slots)) c says.Started (searching (q .slots) (started (q .slots) es))) (same .1)
-        (subst (λ zs. Told k s (book zs) c says.Started (searching zs (started zs ds))) (same .0) t);
-    on =
-        subst (λ es. Run k s (searching (q .slots) (started (q .slots) es)) cs answers (searching xs q)) (same .1)
-        (subst (λ zs. Run k s (searching zs (started zs ds)) cs answers (searching xs q)) (same .0) r);
-    last = none-after;
+    answered = refl;
+    cut = record {
+      before = [];
+      call = c;
+      rest = cs;
+      calls = refl;
+      until = subst (λ zs. Run k s (book ys) [] [] (book zs)) (same .0) none;
+      here =
+          subst (λ es. Told k s (book (q .slots)) c says.Started (searching (q .slots) (started (q .slots) es))) (same .1)
+          (subst (λ zs. Told k s (book zs) c says.Started (searching zs (started zs ds))) (same .0) t);
+      on =
+          subst (λ es. Run k s (searching (q .slots) (started (q .slots) es)) cs answers (searching xs q)) (same .1)
+          (subst (λ zs. Run k s (searching zs (started zs ds)) cs answers (searching xs q)) (same .0) r);
+    };
+    alone = alone;
   })
-  begun-done write t r none-after same = absurd same
-  begun-done erase t r none-after same = absurd same
-  begun-done read t r none-after same = absurd same
-  begun-done (take e) t r none-after same = absurd same
-  begun-done abandon t r none-after same = absurd same
+  origin-done write t r alone same = absurd same
+  origin-done erase t r alone same = absurd same
+  origin-done read t r alone same = absurd same
+  origin-done (take e) t r alone same = absurd same
+  origin-done abandon t r alone same = absurd same
 
-  begun-here : {l m : Ledger W} {c : Lent} {a : Answer W} {cs : List Lent} {answers : List (Answer W)} {xs : List (Slot W)} {q : Search W}
-      → Told k s l c a m → Run k s m cs answers (searching xs q) → total began answers ≡ 0 → Same m q → Either l c a cs answers xs q
-  begun-here (misuse e) r none-after same = inl (same, omega arith)
-  begun-here (refused e f) r none-after same = inl (same, omega arith)
-  begun-here (done e f d) r none-after same = begun-done d (done e f d) r none-after same
+  origin-here : {l m : Ledger W} {c : Lent} {a : Answer W} {cs : List Lent} {answers : List (Answer W)} {xs : List (Slot W)} {q : Search W}
+      → Told k s l c a m → Run k s m cs answers (searching xs q) → NoStart answers → Same m q → Either l c a cs answers xs q
+  origin-here {answers = answers} (misuse e) r alone same = inl (same, no-start-more _ answers (λ x. clash (cc)) alone)
+  origin-here {answers = answers} (refused e f) r alone same = inl (same, no-start-more _ answers (λ x. clash (cc)) alone)
+  origin-here (done e f d) r alone same = origin-done d (done e f d) r alone same
 
-  begun-in : {l : Ledger W} {cs : List Lent} {answers : List (Answer W)} {xs : List (Slot W)} {q : Search W} → Run k s l cs answers (searching xs q)
-      → (Same l q × (total began answers ≡ 0)) ⊎ Begun k s l cs answers xs q
-  begun-in none = inl ((refl, refl), refl)
-  begun-in (then t r) = elim (begun-in r) [ inl h ↦ begun-here t r (h .1) (h .0) | inr b ↦ inr (begun-before t b) ]
+  origin-in : {l : Ledger W} {cs : List Lent} {answers : List (Answer W)} {xs : List (Slot W)} {q : Search W} → Run k s l cs answers (searching xs q)
+      → (Same l q × NoStart answers) ⊎ Origin k s l cs answers xs q
+  origin-in none = inl ((refl, refl), λ as₁ as₂ e. nothing as₁ as₂ e)
+    where
+      nothing : (as₁ as₂ : List (Answer W)) → [] ≡ as₁ ++ (says.Started ∷ as₂) → ⊥
+      nothing [] as₂ e = clash (cc)
+      nothing (x ∷ as₁) as₂ e = clash (cc)
+  origin-in (then t r) = elim (origin-in r) [ inl h ↦ origin-here t r (h .1) (h .0) | inr o ↦ inr (origin-before t o) ]
 
   -- a book has no search, so it started on the way
-  begun-on-way : {ys : List (Slot W)} {cs : List Lent} {answers : List (Answer W)} {xs : List (Slot W)} {q : Search W} → Run k s (book ys) cs answers (searching xs q)
-      → Begun k s (book ys) cs answers xs q
-  begun-on-way r = elim (begun-in r) [ inl h ↦ absurd (h .0) | inr b ↦ b ]
+  origin-on-way : {ys : List (Slot W)} {cs : List Lent} {answers : List (Answer W)} {xs : List (Slot W)} {q : Search W} → Run k s (book ys) cs answers (searching xs q)
+      → Origin k s (book ys) cs answers xs q
+  origin-on-way r = elim (origin-in r) [ inl h ↦ absurd (h .0) | inr o ↦ o ]
 
 -- ---- the law
 
@@ -236,22 +244,18 @@ module _ {W : Type 0} (k : Kind W) (law : Lawful k) (s : Shape) where
   told-took {c = c} (done e r d) h = took (c .rows) d r h
 
   taking : (cs : List Lent) (earlier : List (Answer W)) (plan : Plan W) (later : List (Answer W)) (last : Ledger W)
-      → Cut k s (opened s) cs earlier (says.Taken plan) later last → Taking k s cs earlier plan later last
+      → CutAt k s (opened s) cs earlier (says.Taken plan) later last → Taking k s cs earlier plan later last
   taking cs earlier plan later last x =
-      let t = told-took (x .here) (run-sound (x .until) (opened-sound k s)) in
-      let until = subst (Run k s (opened s) (x .before) earlier) (t .from) (x .until) in
+      let t = told-took (x .cut .here) (run-sound (x .cut .until) (opened-sound k s)) in
+      let cut =
+      subst (λ l. Cut k s (opened s) cs earlier l (says.Taken plan) (book (t .left)) later last) (t .from)
+      (subst (λ l. Cut k s (opened s) cs earlier (x .from) (says.Taken plan) l later last) (t .to) (x .cut)) in
       record {
-        before = x .before;
-        call = x .call;
-        rest = x .rest;
-        calls = x .calls;
         owner = t .owner;
         slots = t .slots;
         left = t .left;
-        until = until;
-        here = subst (λ l. Told k s l (x .call) (says.Taken plan) (book (t .left))) (t .from) (subst (Told k s (x .from) (x .call) (says.Taken plan)) (t .to) (x .here));
-        on = subst (λ l. Run k s l (x .rest) later last) (t .to) (x .on);
-        start = begun-on-way k s until;
+        cut = cut;
+        origin = origin-on-way k s (cut .until);
         grants = t .grants;
         ringless = t .ringless;
         exact = t .exact;
@@ -261,6 +265,6 @@ module _ {W : Type 0} (k : Kind W) (law : Lawful k) (s : Shape) where
   pub runs-obey : (cs : List Lent) (answers : List (Answer W)) (last : Ledger W) → Run k s (opened s) cs answers last → Law k s cs answers last
   runs-obey cs answers last r = record {
     told = r;
-    fair = λ earlier plan later e. taking cs earlier plan later last (cut r earlier (says.Taken plan) later e);
+    fair = λ earlier plan later e. taking cs earlier plan later last (cut-at r earlier (says.Taken plan) later e);
     counted = let all = steps r (opened-sound k s) in let none = none-stand W (rowsOf s) in omega arith;
   }
