@@ -25,8 +25,8 @@ use Rattle.planner.specs.Walk.{Node, Question, NoLess, Place, at, begun, Visit
 use Rattle.planner.specs.Search.{kept, revoked, ringQuestion}
 use Rattle.planner.specs.Ledger.{Ledger, book, searching, tooFew, refusal, admitted, opened, asks, started, plan, Done, write, erase, read, start, advance, take, abandon, Told, misuse, refused, done, Run, none, then}
 use Rattle.planner.specs.FlowTests.{toDecide}
-use Rattle.planner.specs.Theorems.{WalksEnd}
-use Rattle.planner.proofs.QuestionLaws.{few, planned}
+use Rattle.planner.specs.Theorems.{WalksAgree, WalksEnd}
+use Rattle.planner.proofs.QuestionLaws.{few, next-fits, planned}
 use Rattle.planner.proofs.TestLaws.{clash}
 use Rattle.planner.proofs.RingLaws.{has-ring, to-decide, decides-unique}
 use Rattle.planner.proofs.SoundLaws.{Sound, told-sound, opened-sound, walk-ended}
@@ -152,9 +152,18 @@ module _ {W : Type 0} (k : Kind W) (s : Shape) (xs : List (Slot W)) (ds : List �
       (walks k (ringQuestion k s xs ds) (ringTests s xs ds) budget next best .1)
   ring-advance = advance-computed k (ringQuestion k s xs ds) (ringTests s xs ds) hopeless-answers solved-answers
 
+pub walks-agree : {W : Type 0} (k : Kind W) → WalksAgree k
+walks-agree k s xs ds = record {
+  advances = ring-advance k s xs ds;
+  no-other = λ budget before visits p p′ a. advance-told k (ringQuestion k s xs ds) (ringTests s xs ds) (hopeless-answers k s xs ds) (solved-answers k s xs ds) a;
+  decides = to-decide s xs;
+  no-others = λ d. decides-unique s xs ds (toDecide s xs) d (to-decide s xs);
+}
+
 module _ {W : Type 0} (k : Kind W) (law : Lawful k) where
   pub walks-end : WalksEnd k
   walks-end s xs ds decides = record {
+    fits = λ v p w. next-fits k law s xs ds decides w;
     few = λ v p w. few k law s xs ds decides w;
     onward = λ v n b w. ring-visit k s xs ds n b;
     ends = ends;

@@ -1,7 +1,7 @@
--- Walk and ledger as functions that compute. That they agree with the relations is a theorem.
+-- Walk and ledger as functions that compute. That the walk agrees with the relation, and every run from an opened book, are theorems.
 --     Tests                  tests for a question's two propositions
 --     outcomeOf, leads       the test that settles a visit, and where it leaves the walk
---     walks k q t b p        the visits made within the budget b, and where they lead
+--     walks k q t b n best   the visits made within the budget b where n is to be visited next, and where they lead
 --     tell k s l c           the answer to a call, and the ledger that it leaves
 --     run k s l cs           the answers to a list of calls, and the last ledger
 use mathlib.Core.Bool.{Bool, true, false, cond, not}
@@ -23,7 +23,7 @@ use Rattle.planner.specs.declared.calls.Answer.{Answer}
 use Rattle.planner.specs.declared.calls.Answer.the-variants as says
 use Rattle.planner.specs.Grants.{Slot, rightsIn, without, only}
 use Rattle.planner.specs.Walk.{Node, keep, Question, after, Place, at}
-use Rattle.planner.specs.Search.{kept, revoked}
+use Rattle.planner.specs.Search.{kept, revoked, ringQuestion}
 use Rattle.planner.specs.Ledger.{Search, Ledger, book, searching, slotAt, nodeLeft, refusal, admitted, freshness, reading, started, moved, asks, plan}
 use Rattle.planner.specs.FlowTests.{hasRing, toDecide}
 
@@ -31,12 +31,14 @@ pub record Tests : Type 0 where
   pub hopeless : Node → Bool
   pub solved : Node → Bool
 
+-- the tests on rings
 abbrev pub ringTests : {W : Type 0} → Shape → List (Slot W) → List ℕ → Tests
 ringTests s xs ds = record {
   hopeless = λ n. hasRing s (rightsIn s (only (kept ds n) xs));
   solved = λ n. not (hasRing s (rightsIn s (without (revoked ds n) xs)));
 }
 
+-- the first test
 abbrev pub isNoLess : {W : Type 0} → Kind W → Question W → Option Node → Node → Bool
 isNoLess k q None n = false
 isNoLess k q (Some b) n = k .atMost (q .weight b) (q .weight n)
@@ -58,6 +60,10 @@ walks k q t (suc budget) (Some n) b =
     let w = walks k q t budget (p .next) (p .best) in
     (suc (w .0), w .1)
 
+-- the walk of the search over the grants ds of the slots xs
+abbrev pub walked : {W : Type 0} → Kind W → Shape → List (Slot W) → List ℕ → ℕ → Option Node → Option Node → ℕ × Place
+walked k s xs ds budget next b = walks k (ringQuestion k s xs ds) (ringTests s xs ds) budget next b
+
 -- an advance to v visits and the place p
 abbrev pub moves : {W : Type 0} → List (Slot W) → Search W → ℕ → Place → Answer W × Ledger W
 moves xs q v p = (says.Advanced (record { visits = v; ended = not (nodeLeft p) }), searching xs (moved q v p))
@@ -67,7 +73,7 @@ abbrev pub takes : {W : Type 0} → Kind W → List (Slot W) → Search W → Op
 takes k xs q None = (says.Misuse, searching xs q)
 takes k xs q (Some n) = (plan k q n, book (without (revoked (q .rows) n) xs))
 
--- calls that are admitted and not refused
+-- calls that are admitted and not refused; the others are not made
 abbrev pub makesOnBook : {W : Type 0} → Kind W → Shape → List (Slot W) → Call → Answer W × Ledger W
 makesOnBook k s xs (call.Write d p r a) = (says.Written (freshness (slotAt s xs d p)), book (set xs (rowOf s d p) (Some (record { right = r; weight = k .of a }))))
 makesOnBook k s xs (call.Erase d p) = (says.Erased, book (set xs (rowOf s d p) None))
@@ -83,7 +89,7 @@ makesOnSearch k s xs q (call.Erase d p) = (says.Misuse, searching xs q)
 makesOnSearch k s xs q (call.Read d p) = (says.Misuse, searching xs q)
 makesOnSearch k s xs q call.Start = (says.Misuse, searching xs q)
 makesOnSearch k s xs q (call.Advance b) =
-    let w = walks k (asks k s q) (ringTests s (q .slots) (q .rows)) b (q .place .next) (q .place .best) in
+    let w = walked k s (q .slots) (q .rows) b (q .place .next) (q .place .best) in
     moves xs q (q .visits + w .0) (w .1)
 makesOnSearch k s xs q call.Take = takes k xs q (q .place .best)
 makesOnSearch k s xs q call.Abandon = (says.Abandoned, book xs)

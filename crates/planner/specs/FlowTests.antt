@@ -1,4 +1,4 @@
--- Rings and orders as tests that compute. That they answer the propositions is a theorem.
+-- Rings and orders as tests that compute. That the ring tests answer the propositions, and that a list that passes is the order, is a theorem.
 --     anyBelow n f        f passes some number below n; allBelow n f: every one
 --     isSource s g a b    a is a source of b
 --     flowsTo s g n a b   flow of a comes to b, on the way only over devices below n

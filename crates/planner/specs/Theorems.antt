@@ -1,6 +1,7 @@
 -- What is proved of every walk and every run, as statements that contracts name.
 --     EndsWithin k s xs ds m   the walk over the grants ds of the slots xs is one, makes at most m visits, goes on while a node is left, and ends with a best plan
 --     WalksEnd k               every walk ends within 2^(n+1) − 1 visits, where n grants are to decide
+--     WalksAgree k             the walk that computes is the walk of the relation, and the rows to decide that compute are those to decide
 --     Settles k                the search's condition follows from the one before it, the test that settled the visit, and whether a keep is left to turn
 --     RowsShow k               after every run, what rowIn says: e and zero exactly where no grant stands; the first mark of a row to decide is the
 --                              choice in the node to be visited next, undecided where that has none or no node is left; the second is held
@@ -32,14 +33,16 @@ use Rattle.planner.specs.declared.calls.Lent.{Lent}
 use Rattle.planner.specs.declared.calls.Answer.{Answer}
 use Rattle.planner.specs.declared.walk.Outcome.{Outcome}
 use Rattle.planner.specs.Grants.{Slot}
-use Rattle.planner.specs.Walk.{Decision, keep, Node, Place, at, begun, Visit, Walked, condition, settled, hasKeep}
+use Rattle.planner.specs.Walk.{Decision, keep, Node, Place, at, begun, Visit, Walked, Advanced, condition, settled, hasKeep}
 use Rattle.planner.specs.Search.{Decides, markOf, isRevoke, choicesOf, ringQuestion}
 use Rattle.planner.specs.Ledger.{Search, Ledger, book, searching, slotsOf, rowIn, isVacant, isEmpty, openRefusal, opened, Run}
 use Rattle.planner.specs.Law.{Law}
-use Rattle.planner.specs.FlowTests.{hasRing, onRing, isOrder}
-use Rattle.planner.specs.Computed.{run}
+use Rattle.planner.specs.FlowTests.{hasRing, onRing, toDecide, isOrder}
+use Rattle.planner.specs.Computed.{walked, run}
 
 pub record EndsWithin {W : Type 0} (k : Kind W) (s : Shape) (xs : List (Slot W)) (ds : List ℕ) (most : ℕ) : Type 0 where
+  -- no node has more choices than there are grants to decide
+  pub fits : (v : ℕ) (p : Place) → Walked k (ringQuestion k s xs ds) v begun p → length (choicesOf (p .next)) ≤ length ds
   pub few : (v : ℕ) (p : Place) → Walked k (ringQuestion k s xs ds) v begun p → v ≤ most
   pub onward : (v : ℕ) (n : Node) (b : Option Node) → Walked k (ringQuestion k s xs ds) v begun (at (Some n) b)
       → (t : Outcome) × (p : Place) × Visit k (ringQuestion k s xs ds) n b t p
@@ -53,6 +56,18 @@ WalksEnd {W} k = (s : Shape) (xs : List (Slot W)) (ds : List ℕ) → Decides s 
 abbrev pub Settles : {W : Type 0} → Kind W → Type 0
 Settles {W} k = (s : Shape) (xs : List (Slot W)) (ds : List ℕ) (n : Node) (b : Option Node) (t : Outcome) (p : Place)
     → Visit k (ringQuestion k s xs ds) n b t p → condition (p .next) ≡ settled (condition (Some n)) t (hasKeep n)
+
+-- the walk and the rows to decide that compute
+pub record WalkAgrees {W : Type 0} (k : Kind W) (s : Shape) (xs : List (Slot W)) (ds : List ℕ) : Type 0 where
+  pub advances : (budget before : ℕ) (next best : Option Node)
+      → Advanced k (ringQuestion k s xs ds) budget before (at next best) (before + walked k s xs ds budget next best .0) (walked k s xs ds budget next best .1)
+  pub no-other : (budget before visits : ℕ) (p p′ : Place) → Advanced k (ringQuestion k s xs ds) budget before p visits p′
+      → (visits ≡ before + walked k s xs ds budget (p .next) (p .best) .0) × (p′ ≡ walked k s xs ds budget (p .next) (p .best) .1)
+  pub decides : Decides s xs (toDecide s xs)
+  pub no-others : Decides s xs ds → ds ≡ toDecide s xs
+
+abbrev pub WalksAgree : {W : Type 0} → Kind W → Type 0
+WalksAgree {W} k = (s : Shape) (xs : List (Slot W)) (ds : List ℕ) → WalkAgrees k s xs ds
 
 -- the node's choices in row order
 abbrev pub inOrder : Node → List Decision
@@ -69,10 +84,12 @@ pub record Marked {W : Type 0} (k : Kind W) (l : Ledger W) (q : Search W) (choic
   -- of all others
   pub blank : (i : ℕ) → (In i (q .rows) → ⊥) → (rowIn k l i .choice ≡ Blank) × (rowIn k l i .held ≡ false)
 
+-- the marks of all rows where the ledger stands
 abbrev pub MarksOf : {W : Type 0} → Kind W → Ledger W → Type 0
 MarksOf k (book xs) = (i : ℕ) → (rowIn k (book xs) i .choice ≡ Blank) × (rowIn k (book xs) i .held ≡ false)
 MarksOf k (searching xs q) = Marked k (searching xs q) q (inOrder (choicesOf (q .place .next)))
 
+-- what the rows show where the ledger stands
 pub record Shown {W : Type 0} (k : Kind W) (l : Ledger W) : Type 0 where
   -- a row shows e exactly if its slot is empty, and zero then
   pub granted : (i : ℕ) → isVacant (getD (slotsOf l) i None) ≡ false → isEmpty (rowIn k l i .right) ≡ false
@@ -82,6 +99,7 @@ pub record Shown {W : Type 0} (k : Kind W) (l : Ledger W) : Type 0 where
 abbrev pub RowsShow : {W : Type 0} → Kind W → Type 0
 RowsShow {W} k = (s : Shape) (cs : List Lent) (answers : List (Answer W)) (last : Ledger W) → Run k s (opened s) cs answers last → Shown k last
 
+-- an open is refused 3, or refused 4, or fits, and each only where it must: so each exactly there
 pub record OpenFits (devices points lent : ℕ) : Type 0 where
   pub size : openRefusal devices points lent ≡ Some WrongSize → InRange devices × InRange points → ⊥
   pub rows : openRefusal devices points lent ≡ Some ShortMemory → InRange devices × InRange points × (lent < devices * points)

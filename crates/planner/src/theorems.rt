@@ -1,5 +1,5 @@
 // What is proved of every walk and every run, for every weight kind: each function's contract is the theorem.
-ghost use Rattle.planner.specs.Theorems.{OpensFit, RowsShow, RunsAreTold, RunsObey, Settles, TestsAnswer, WalksEnd};
+ghost use Rattle.planner.specs.Theorems.{OpensFit, RowsShow, RunsAreTold, RunsObey, Settles, TestsAnswer, WalksAgree, WalksEnd};
 ghost use Rattle.mesh.specs.Kind.{Lawful};
 ghost use Rattle.planner.specs.Tried.{Tried};
 ghost use Rattle.planner.specs.WrongPlanners.{WrongPlanners, level};
@@ -13,6 +13,12 @@ use mesh::weight::Weight;
 pub fn walks_end<W: Weight>()
     ensures ends { λ _. ⌜ WalksEnd (W·Weight .meaning) ⌝ }
 {}
+
+// The walk that computes is the one of the rules, and so are the rows to decide.
+pub fn walks_agree<W: Weight>()
+    ensures agree { λ _. ⌜ WalksAgree (W·Weight .meaning) ⌝ }
+{
+}
 
 // The condition after a visit follows from the condition before it and the test that settled the visit.
 pub fn conditions_settle<W: Weight>()
@@ -57,7 +63,7 @@ pub fn level_kinds_are_lawful<W: Weight>()
     ensures lawful { λ _. ⌜ Lawful (level (W·Weight .meaning)) ⌝ }
 {}
 
-// Five wrong planners, each with the part of the law that it contradicts.
+// Five wrong planners, and what of the law stops each.
 pub fn wrong_planners_fail()
     ensures wrong { λ _. ⌜ WrongPlanners ⌝ }
 {
