@@ -11,6 +11,7 @@ use Rattle.std.specs.declared.option.Option.the-variants.{Some, None}
 use Rattle.mesh.specs.declared.right.Right.{Right}
 use Rattle.mesh.specs.declared.right.Right.the-variants.{Empty}
 use Rattle.mesh.specs.Kind.{Kind, Lawful}
+use Rattle.planner.proofs.TestLaws.{clash}
 use Rattle.planner.specs.Grants.{Slot, RowSet, rightIn, beyond, without, grantsIn, chosen, joined, weightOf, numberOf, standing}
 
 -- ---- removal
@@ -35,6 +36,22 @@ row-without c (x ∷ xs) (suc i) = row-without (beyond c) xs i
 pub length-without : {W : Type 0} (c : RowSet) (xs : List (Slot W)) → length (without c xs) ≡ length xs
 length-without c [] = refl
 length-without c (x ∷ xs) = ap suc (length-without (beyond c) xs)
+
+-- what is removed is known by what is left
+pub chosen-left : {W : Type 0} (c d : RowSet) (xs : List (Slot W)) → without c xs ≡ without d xs → chosen c xs ≡ chosen d xs
+chosen-left c d [] e = refl
+chosen-left {W} c d (x ∷ xs) e = go x (c 0) (d 0) (cc) (chosen-left (beyond c) (beyond d) xs (cc))
+  where
+    go : (y : Slot W) (u v : Bool) → cond u None y ≡ cond v None y → chosen (beyond c) xs ≡ chosen (beyond d) xs
+        → cond u (grantsIn y) [] ++ chosen (beyond c) xs ≡ cond v (grantsIn y) [] ++ chosen (beyond d) xs
+    go None true true h rest = rest
+    go None true false h rest = rest
+    go None false true h rest = rest
+    go None false false h rest = rest
+    go (Some g) true true h rest = ap (λ gs. g ∷ gs) rest
+    go (Some g) true false h rest = absurd (clash (cc))
+    go (Some g) false true h rest = absurd (clash (cc))
+    go (Some g) false false h rest = rest
 
 -- ---- weights
 

@@ -1,7 +1,7 @@
 -- What stops each of the wrong planners.
-use mathlib.Core.Path.{_≡_, refl, ap, _∙_}
+use mathlib.Core.Path.{_≡_, refl, sym, ap, _∙_}
 use mathlib.Core.Bool.{Bool, false, cond, _||_}
-use mathlib.Core.List.{List, [], _∷_, _++_, map}
+use mathlib.Core.List.{List, [], _∷_, _++_, map, reverse}
 use mathlib.Core.Logic.{inl, inr}
 use Prim.Native.Nat.{ℕ, _+_, _^_, _≤_}
 use native.Mathlib.Omega.{arith}
@@ -18,19 +18,23 @@ use Rattle.mesh.specs.Kinds.{admitted, sumKind}
 use Rattle.flow.specs.Flow.{Ring}
 use Rattle.planner.specs.declared.calls.Call.{Call}
 use Rattle.planner.specs.declared.calls.Lent.{Lent}
+use Rattle.planner.specs.declared.calls.Plan.{Plan}
 use Rattle.planner.specs.declared.calls.Progress.{Progress}
 use Rattle.planner.specs.declared.calls.Answer.the-variants as says
-use Rattle.planner.specs.Grants.{Slot, rightIn, rightsIn, without}
+use Rattle.planner.specs.Grants.{Slot, RowSet, rightIn, rightsIn, without, joined, weightOf}
+use Rattle.planner.specs.Law.{Exact}
 use Rattle.planner.specs.Walk.{Question, Place, Walked, stay, visit}
-use Rattle.planner.specs.Ledger.{Ledger, searching, started, tooFew, refusal, Done, advance, Told, done}
+use Rattle.planner.specs.Ledger.{Search, Ledger, searching, started, tooFew, refusal, Done, advance, Told, done}
 use Rattle.planner.specs.Theorems.{RunsAreTold}
-use Rattle.planner.specs.Tried.{two-by-two, firstTrial, callsOf}
-use Rattle.planner.specs.WrongPlanners.{level, rolled, rollKind, slots, seeker, levelTrial, WrongPlanners}
+use Rattle.planner.specs.Tried.{two-by-two, firstTrial, filled, callsOf, planned, leftOf}
+use Rattle.planner.specs.WrongPlanners.{level, rolled, rollKind, slots, seeker, rollTrial, levelTrial, WrongPlanners}
 use Rattle.planner.proofs.TestLaws.{is-true, is-false, clash}
 use Rattle.planner.proofs.RingLaws.{has-ring, to-decide}
 use Rattle.planner.proofs.SoundLaws.{first-none}
 use Rattle.planner.proofs.ComputedLaws.{runs-are-told}
 use Rattle.planner.proofs.TriedLaws.{holds}
+use Rattle.planner.proofs.GrantLaws.{chosen-left}
+use Rattle.planner.proofs.RunLaws.{runs-obey}
 
 pub level-lawful : {W : Type 0} (k : Kind W) → Lawful k → Lawful (level k)
 level-lawful k law = record {
@@ -100,12 +104,22 @@ wrong-planners told lawful = record {
   empty-plan = has-ring two-by-two (map rightIn (without (λ _. false) (seeker .slots))) .0 tt;
   no-visit = no-visit;
   lawful = roll-lawful;
-  other-order = λ e. let q : _≡_ {A = ℕ} 5 9 = ap (λ w. getD w 0 0) e in omega arith;
+  in-row-order = holds rollKind (runs-are-told rollKind roll-lawful) rollTrial refl;
+  other-order = other-order;
   all-equal = lawful;
-  its-plan = holds (level sumKind) (runs-are-told (level sumKind) lawful) levelTrial refl;
+  its-plan = runs-obey (level sumKind) lawful two-by-two _ _ _ (holds (level sumKind) (runs-are-told (level sumKind) lawful) levelTrial refl .told);
   not-cheapest = λ cheapest. cheapest (λ i. eqb i 1) rid;
   no-other = λ answers last law. told two-by-two (callsOf firstTrial) .1 answers last (law .told) .0;
 }
   where
+    other-order : (q : Search (List ℕ)) (plan : Plan (List ℕ)) (grants : RowSet) → q .slots ≡ filled rollKind (rollTrial .shape) (rollTrial .grants)
+        → Exact rollKind q plan (q .slots) (leftOf rollKind rollTrial) grants → plan .weight ≡ reverse (rollTrial .weight) → ⊥
+    other-order q plan grants e x turned =
+        let table = filled rollKind (rollTrial .shape) (rollTrial .grants) in
+        let left : without grants table ≡ leftOf rollKind rollTrial = ap (without grants) (sym e) ∙ sym (x .emptied) in
+        let weight : plan .weight ≡ rollTrial .weight = x .weight ∙ ap (weightOf rollKind grants) e ∙ ap (joined rollKind []) (chosen-left grants (planned rollTrial) table left) in
+        let first : _≡_ {A = ℕ} 3 1 = ap (λ w. getD w 0 0) (sym weight ∙ turned) in
+        omega arith
+
     no-visit : (c : Lent) (ended : Bool) (l : Ledger Sum) → Told sumKind two-by-two (searching (slots sumKind) seeker) c (says.Advanced (record { visits = 0; ended = ended })) l → ⊥
     no-visit c ended l (done e r d) = some-visit d (c .rows) r (slots sumKind) (seeker .rows) refl refl

@@ -24,7 +24,7 @@ use Rattle.planner.specs.declared.calls.Answer.the-variants as says
 use Rattle.planner.specs.Grants.{Slot, rightsIn, without, only}
 use Rattle.planner.specs.Walk.{Node, keep, Question, after, Place, at}
 use Rattle.planner.specs.Search.{kept, revoked, ringQuestion}
-use Rattle.planner.specs.Ledger.{Search, Ledger, book, searching, slotAt, nodeLeft, refusal, admitted, freshness, reading, started, moved, asks, plan}
+use Rattle.planner.specs.Ledger.{Search, Ledger, book, searching, slotAt, nodeLeft, refusal, admitted, freshness, reading, started, moved, plan}
 use Rattle.planner.specs.FlowTests.{hasRing, toDecide}
 
 pub record Tests : Type 0 where

@@ -21,6 +21,7 @@ use Rattle.mesh.specs.declared.shape.Shape.{Shape}
 use Rattle.mesh.specs.Kind.{Kind}
 use Rattle.flow.specs.Flow.{Rights, placed}
 
+-- a grant that stands in a slot
 pub record Grant (W : Type 0) : Type 0 where
   pub right : Right
   pub weight : W

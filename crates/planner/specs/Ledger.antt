@@ -104,7 +104,7 @@ tooFew s lent = ltb lent (rowsOf s)
 abbrev pub outside : Shape → ℕ → ℕ → Bool
 outside s d p = leb (s .devices) d || leb (s .points) p
 
--- the refusals of a call on the book
+-- the refusals of a call on the book; a call on the search is not admitted there, and nothing is checked
 abbrev pub ofBook : {W : Type 0} → Kind W → Shape → List (Slot W) → Call → ℕ → List (Bool × Refusal)
 ofBook k s xs (call.Write d p r a) n = (tooFew s n, ShortMemory) ∷ (outside s d p, OutsideTable) ∷ (isEmpty r, WrongRight) ∷ (not (k .admits a), WrongAmount) ∷ []
 ofBook k s xs (call.Erase d p) n = (tooFew s n, ShortMemory) ∷ (outside s d p, OutsideTable) ∷ (isVacant (slotAt s xs d p), NothingToErase) ∷ []
@@ -114,7 +114,7 @@ ofBook k s xs (call.Advance b) n = []
 ofBook k s xs call.Take n = []
 ofBook k s xs call.Abandon n = []
 
--- the refusals of a call on the search
+-- the refusals of a call on the search; a call on the book is not admitted there
 abbrev pub ofSearch : {W : Type 0} → Shape → Search W → Call → ℕ → List (Bool × Refusal)
 ofSearch s q (call.Write d p r a) n = []
 ofSearch s q (call.Erase d p) n = []
@@ -179,7 +179,7 @@ asks k s q = ringQuestion k s (q .slots) (q .rows)
 abbrev pub plan : {W : Type 0} → Kind W → Search W → Node → Answer W
 plan k q n = says.Taken (record { weight = weightOf k (revoked (q .rows) n) (q .slots); grants = numberOf (revoked (q .rows) n) (q .slots); visits = q .visits })
 
--- a rule for each call
+-- a rule for each call; while a search has the book its copy is equal to the slots, since no rule changes them
 pub data Done {W : Type 0} (k : Kind W) (s : Shape) : Ledger W → Call → Answer W → Ledger W → Type 0 where
   write : {xs : List (Slot W)} {d p a : ℕ} {r : Right}
       → Done k s (book xs) (call.Write d p r a) (says.Written (freshness (slotAt s xs d p))) (book (set xs (rowOf s d p) (Some (record { right = r; weight = k .of a }))))

@@ -25,10 +25,11 @@ use Rattle.planner.specs.declared.calls.Lent.{Lent}
 use Rattle.planner.specs.declared.calls.Written.the-variants.{Fresh, Replaced}
 use Rattle.planner.specs.declared.calls.Answer.{Answer}
 use Rattle.planner.specs.declared.calls.Answer.the-variants as says
-use Rattle.planner.specs.Grants.{Slot, rightsIn, without}
+use Rattle.planner.specs.Grants.{Slot, RowSet, rightsIn, without}
 use Rattle.planner.specs.Search.{isIn}
 use Rattle.planner.specs.Ledger.{book, opened, Run}
 
+-- a grant of a table, by its amount
 pub record Entry : Type 0 where
   pub device : ℕ
   pub point : ℕ
@@ -45,9 +46,11 @@ pub record Trial (W : Type 0) : Type 0 where
   -- the devices in flow order once the plan is taken
   pub order : List ℕ
 
+-- a table's size, with the tests that it is in range
 abbrev pub shaped : (devices points : ℕ) → T (leb 1 devices) → T (leb devices 64) → T (leb 1 points) → T (leb points 64) → Shape
 shaped d p low high least most = record { devices = d; points = p; «in_range» = (leb→le 1 d low, leb→le d 64 high, leb→le 1 p least, leb→le p 64 most) }
 
+-- the same, in short
 abbrev pub entry : ℕ → ℕ → Right → ℕ → Entry
 entry d p r a = record { device = d; point = p; right = r; amount = a }
 
@@ -55,12 +58,15 @@ entry d p r a = record { device = d; point = p; right = r; amount = a }
 abbrev pub lent : Shape → Call → Lent
 lent s c = record { call = c; rows = rowsOf s }
 
+-- the call that writes it
 abbrev pub writing : Entry → Call
 writing e = call.Write (e .device) (e .point) (e .right) (e .amount)
 
+-- the grants are written; start, advance, take
 abbrev pub callsOf : {W : Type 0} → Trial W → List Lent
 callsOf t = map (lent (t .shape)) (map writing (t .grants) ++ (call.Start ∷ call.Advance 1000 ∷ call.Take ∷ []))
 
+-- what they are told
 abbrev pub answersOf : {W : Type 0} → Trial W → List (Answer W)
 answersOf t = map (λ e. says.Written Fresh) (t .grants) ++ (
     says.Started ∷ says.Advanced (record { visits = t .visits; ended = true })
@@ -71,16 +77,23 @@ abbrev pub put : {W : Type 0} → Kind W → Shape → List (Slot W) → List En
 put k s xs [] = xs
 put k s xs (e ∷ es) = put k s (set xs (rowOf s (e .device) (e .point)) (Some (record { right = e .right; weight = k .of (e .amount) }))) es
 
+-- the slots of a table with these grants
 abbrev pub filled : {W : Type 0} → Kind W → Shape → List Entry → List (Slot W)
 filled k s es = put k s (replicate (rowsOf s) None) es
 
--- the slots without the revoked grants
+-- the rows of the revoked grants, and the slots without them
+abbrev pub planned : {W : Type 0} → Trial W → RowSet
+planned t i = isIn i (map (λ g. rowOf (t .shape) (g .0) (g .1)) (t .revokes))
+
 abbrev pub leftOf : {W : Type 0} → Kind W → Trial W → List (Slot W)
-leftOf k t = without (λ i. isIn i (map (λ g. rowOf (t .shape) (g .0) (g .1)) (t .revokes))) (filled k (t .shape) (t .grants))
+leftOf k t = without (planned t) (filled k (t .shape) (t .grants))
 
 pub record Holds {W : Type 0} (k : Kind W) (t : Trial W) : Type 0 where
   pub told : Run k (t .shape) (opened (t .shape)) (callsOf t) (answersOf t) (book (leftOf k t))
   pub ordered : FlowOrder (rightsIn (t .shape) (leftOf k t)) (t .shape .devices) (t .order)
+
+abbrev pub one-by-one : Shape
+one-by-one = shaped 1 1 tt tt tt tt
 
 abbrev pub two-by-two : Shape
 two-by-two = shaped 2 2 tt tt tt tt
@@ -111,11 +124,12 @@ firstTrial = record {
   order = 1 ∷ 0 ∷ [];
 }
 
+-- by sum; then by peak
 abbrev pub sumTrials : List (Trial Sum)
 sumTrials =
     firstTrial
     ∷ record { shape = two-by-two; grants = []; weight = record { value = 0 }; revokes = []; visits = 1; order = 0 ∷ 1 ∷ [] }
-    ∷ record { shape = shaped 1 1 tt tt tt tt; grants = entry 0 0 Both 7 ∷ []; weight = record { value = 0 }; revokes = []; visits = 1; order = 0 ∷ [] }
+    ∷ record { shape = one-by-one; grants = entry 0 0 Both 7 ∷ []; weight = record { value = 0 }; revokes = []; visits = 1; order = 0 ∷ [] }
     ∷ pair 7 2
     ∷ pair 4 4
     ∷ record { shape = shaped 2 3 tt tt tt tt; grants = crossed; weight = record { value = 5 }; revokes = (0, 0) ∷ []; visits = 13; order = 1 ∷ 0 ∷ [] }
@@ -126,9 +140,7 @@ peakTrials =
     record { shape = shaped 2 3 tt tt tt tt; grants = crossed; weight = record { value = 3 }; revokes = (1, 1) ∷ (1, 2) ∷ []; visits = 13; order = 0 ∷ 1 ∷ [] }
     ∷ []
 
-abbrev pub one-by-one : Shape
-one-by-one = shaped 1 1 tt tt tt tt
-
+-- writes of four amounts to one row, and what they are told
 abbrev pub amountCalls : List Lent
 amountCalls = map (λ a. lent one-by-one (call.Write 0 0 Read a)) (1 ∷ 1000000 ∷ 0 ∷ 1000001 ∷ [])
 
@@ -138,6 +150,7 @@ amountAnswers = says.Written Fresh ∷ says.Written Replaced ∷ says.Refused Wr
 abbrev pub AmountsHold : {W : Type 0} → Kind W → Type 0
 AmountsHold k = Run k one-by-one (opened one-by-one) amountCalls amountAnswers (book (filled k one-by-one (entry 0 0 Read 1000000 ∷ [])))
 
+-- each of the list
 abbrev pub All : {A : Type 0} → (A → Type 0) → List A → Type 0
 All P [] = Unit {0}
 All P (x ∷ xs) = P x × All P xs

@@ -17,8 +17,7 @@ pub fn walks_end<W: Weight>()
 // The walk that computes is the one of the rules, and so are the rows to decide.
 pub fn walks_agree<W: Weight>()
     ensures agree { λ _. ⌜ WalksAgree (W·Weight .meaning) ⌝ }
-{
-}
+{}
 
 // The condition after a visit follows from the condition before it and the test that settled the visit.
 pub fn conditions_settle<W: Weight>()
