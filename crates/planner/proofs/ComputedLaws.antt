@@ -188,10 +188,10 @@ module _ {W : Type 0} (k : Kind W) (law : Lawful k) (s : Shape) where
   done-computed (book xs) (call.Read d p) n h e f = read
   done-computed (book xs) call.Start n h e f = start (to-decide s xs)
   done-computed (searching xs q) (call.Advance b) n h e f =
-      advance (ring-advance k s (q .slots) (q .rows) b (q .visits) (q .place .next) (q .place .best))
+      advance (ring-advance k s (q .slots) (q .deciding) b (q .visits) (q .place .next) (q .place .best))
   done-computed (searching xs q) call.Take n h e f =
       let ended = walk-ended (q .place .next) (q .place .best) (tooFew s n) f in
-      let best = planned k law s (q .slots) (q .rows) (h .decides) (q .place) (h .walked) ended .1 in
+      let best = planned k law s (q .slots) (q .deciding) (h .decides) (q .place) (h .walked) ended .1 in
       subst (λ b. Done k s (searching xs q) call.Take (takes k xs q b .0) (takes k xs q b .1)) (sym best) (take best)
   done-computed (searching xs q) call.Abandon n h e f = abandon
   -- calls that are not admitted
@@ -218,7 +218,7 @@ module _ {W : Type 0} (k : Kind W) (law : Lawful k) (s : Shape) where
   makes-told h read = refl
   makes-told h (start {xs = xs} {ds = ds} d) = ap (λ (ds : List ℕ). (says.Started, searching xs (started xs ds))) (decides-unique s xs ds (toDecide s xs) d (to-decide s xs))
   makes-told h (advance {xs = xs} {q = q} {p = p} m) =
-      let told = advance-told k (asks k s q) (ringTests s (q .slots) (q .rows)) (hopeless-answers k s (q .slots) (q .rows)) (solved-answers k s (q .slots) (q .rows)) m in
+      let told = advance-told k (asks k s q) (ringTests s (q .slots) (q .deciding)) (hopeless-answers k s (q .slots) (q .deciding)) (solved-answers k s (q .slots) (q .deciding)) m in
       ap (λ v. moves xs q v p) (told .0) ∙ ap (moves xs q _) (told .1)
   makes-told h (take {xs = xs} {q = q} e) = ap (takes k xs q) (sym e)
   makes-told h abandon = refl

@@ -98,7 +98,7 @@ held-at ds r b l j h = go (cases-lt j (length b))
 module _ {W : Type 0} (k : Kind W) (law : Lawful k) (s : Shape) where
   marked : (xs : List (Slot W)) (q : Search W) → Searching k s xs q → Marked k (searching xs q) q (inOrder (choicesOf (q .place .next)))
   marked xs q h =
-      let ds = q .rows in
+      let ds = q .deciding in
       let n = choicesOf (q .place .next) in
       let rising = h .decides .rising in
       let fits = next-fits k law s (q .slots) ds (h .decides) (h .walked) in

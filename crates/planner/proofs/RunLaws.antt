@@ -52,8 +52,8 @@ done-step n read r h = refl
 done-step n (start d) r h = refl
 done-step n (advance m) r h = refl
 done-step n (take {xs = xs} {q = q} {n = m} e) r h =
-    let all = standing-without (revoked (q .rows) m) xs in
-    let same = ap (numberOf (revoked (q .rows) m)) (h .copied) in
+    let all = standing-without (revoked (q .deciding) m) xs in
+    let same = ap (numberOf (revoked (q .deciding) m)) (h .copied) in
     omega arith
 done-step n abandon r h = refl
 
@@ -124,7 +124,7 @@ cut-at {k = k} {s = s} {l = l} (then {m = m} {c = c} {a = b} {answers = answers}
 -- the search at the ledger l is q, if perhaps at another place
 abbrev Same : {W : Type 0} → Ledger W → Search W → Type 0
 Same (book ys) q = ⊥
-Same (searching ys m) q = (m .slots ≡ q .slots) × (m .rows ≡ q .rows)
+Same (searching ys m) q = (m .slots ≡ q .slots) × (m .deciding ≡ q .deciding)
 
 -- no search starts
 abbrev NoStart : {W : Type 0} → List (Answer W) → Type 0
@@ -218,18 +218,18 @@ module _ {W : Type 0} (k : Kind W) (law : Lawful k) (s : Shape) where
   took : {l l′ : Ledger W} {c : Call} {plan : Plan W} (n : ℕ) → Done k s l c (says.Taken plan) l′ → refusal k s l c n ≡ None → Sound k s l → Took l plan l′
   took n (take {xs = xs} {q = q} {n = node} best) r h =
       let ended = walk-ended (q .place .next) (q .place .best) (tooFew s n) r in
-      let found = planned k law s (q .slots) (q .rows) (h .decides) (q .place) (h .walked) ended in
-      let p = subst (Planned k law s (q .slots) (q .rows) (h .decides)) (some-same (sym (found .1) ∙ best)) (found .2) in
+      let found = planned k law s (q .slots) (q .deciding) (h .decides) (q .place) (h .walked) ended in
+      let p = subst (Planned k law s (q .slots) (q .deciding) (h .decides)) (some-same (sym (found .1) ∙ best)) (found .2) in
       record {
         owner = q;
         slots = xs;
-        left = without (revoked (q .rows) node) xs;
-        grants = revoked (q .rows) node;
+        left = without (revoked (q .deciding) node) xs;
+        grants = revoked (q .deciding) node;
         from = refl;
         to = refl;
-        ringless = subst (λ ys. Ring (rightsIn s (without (revoked (q .rows) node) ys)) → ⊥) (sym (h .copied)) (p .ringless);
+        ringless = subst (λ ys. Ring (rightsIn s (without (revoked (q .deciding) node) ys)) → ⊥) (sym (h .copied)) (p .ringless);
         exact = record {
-          stood = λ i. revoked-stand k law s (q .slots) (q .rows) (h .decides) node i (p .short);
+          stood = λ i. revoked-stand k law s (q .slots) (q .deciding) (h .decides) node i (p .short);
           weight = refl;
           number = refl;
           visits = refl;

@@ -103,7 +103,7 @@ pub record Slots {W : Type 0} (s : Shape) (xs : List (Slot W)) : Type 0 where
 pub record Searching {W : Type 0} (k : Kind W) (s : Shape) (xs : List (Slot W)) (q : Search W) : Type 0 where
   pub slots : Slots s xs
   pub copied : xs ≡ q .slots
-  pub decides : Decides s (q .slots) (q .rows)
+  pub decides : Decides s (q .slots) (q .deciding)
   pub walked : Walked k (asks k s q) (q .visits) begun (q .place)
 
 abbrev pub Sound : {W : Type 0} → Kind W → Shape → Ledger W → Type 0
@@ -127,8 +127,8 @@ done-sound {k = k} {s = s} n (advance {q = q} {p = p} m) r h = record {
   walked = subst (λ v. Walked k (asks k s q) v begun p) (sym (m .counted)) (walked-then (h .walked) (m .walk));
 }
 done-sound n (take {xs = xs} {q = q} {n = node} e) r h = record {
-  sized = length-without (revoked (q .rows) node) xs ∙ h .slots .sized;
-  granted = granted-without (revoked (q .rows) node) xs (h .slots .granted);
+  sized = length-without (revoked (q .deciding) node) xs ∙ h .slots .sized;
+  granted = granted-without (revoked (q .deciding) node) xs (h .slots .granted);
 }
 done-sound n abandon r h = h .slots
 

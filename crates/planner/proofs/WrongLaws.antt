@@ -122,4 +122,4 @@ wrong-planners told lawful = record {
         omega arith
 
     no-visit : (c : Lent) (ended : Bool) (l : Ledger Sum) → Told sumKind two-by-two (searching (slots sumKind) seeker) c (says.Advanced (record { visits = 0; ended = ended })) l → ⊥
-    no-visit c ended l (done e r d) = some-visit d (c .rows) r (slots sumKind) (seeker .rows) refl refl
+    no-visit c ended l (done e r d) = some-visit d (c .rows) r (slots sumKind) (seeker .deciding) refl refl

@@ -71,7 +71,7 @@ moves xs q v p = (says.Advanced (record { visits = v; ended = not (nodeLeft p) }
 -- a take of the best plan, which an ended walk has
 abbrev pub takes : {W : Type 0} → Kind W → List (Slot W) → Search W → Option Node → Answer W × Ledger W
 takes k xs q None = (says.Misuse, searching xs q)
-takes k xs q (Some n) = (plan k q n, book (without (revoked (q .rows) n) xs))
+takes k xs q (Some n) = (plan k q n, book (without (revoked (q .deciding) n) xs))
 
 -- calls that are admitted and not refused; the others are not made
 abbrev pub makesOnBook : {W : Type 0} → Kind W → Shape → List (Slot W) → Call → Answer W × Ledger W
@@ -89,7 +89,7 @@ makesOnSearch k s xs q (call.Erase d p) = (says.Misuse, searching xs q)
 makesOnSearch k s xs q (call.Read d p) = (says.Misuse, searching xs q)
 makesOnSearch k s xs q call.Start = (says.Misuse, searching xs q)
 makesOnSearch k s xs q (call.Advance b) =
-    let w = walked k s (q .slots) (q .rows) b (q .place .next) (q .place .best) in
+    let w = walked k s (q .slots) (q .deciding) b (q .place .next) (q .place .best) in
     moves xs q (q .visits + w .0) (w .1)
 makesOnSearch k s xs q call.Take = takes k xs q (q .place .best)
 makesOnSearch k s xs q call.Abandon = (says.Abandoned, book xs)

@@ -1,6 +1,8 @@
 -- The law that runs obey.
---     Cut k s l cs as m a m′ bs last   a run of the calls cs from l to last, cut at a call that is told a and leads from m to m′: as are the answers before it, bs those after it
---     Origin k s l cs as xs q          the search q, which has the book with the slots xs after the calls cs from l, started within them on the slots that it copied
+--     Cut k s l cs as m a m′ bs last   a run of the calls cs from l to last, cut at a call that is told a and leads from m to m′:
+--                                      as are the answers before it, bs those after it
+--     Origin k s l cs as xs q          the search q, which has the book with the slots xs after the calls cs from l, started within them
+--                                      on the slots that it copied
 --     Exact k q plan xs ys c           a plan taken is what it is said to be: the search q, its answer, the slots xs right before and ys right after, the grants c
 --     Cheapest k s q w                 no set of grants that stood when the search q started, and whose removal leaves no ring, weighs less than w
 --     Taking k s cs as plan bs last    a plan taken within a run, and what is promised of it
@@ -39,7 +41,7 @@ pub record Origin {W : Type 0} (k : Kind W) (s : Shape) (l : Ledger W) (cs : Lis
   pub later : List (Answer W)
   pub answered : answers ≡ earlier ++ (says.Started ∷ later)
   -- the start comes to a book with the slots that the search copied
-  pub cut : Cut k s l cs earlier (book (q .slots)) says.Started (searching (q .slots) (started (q .slots) (q .rows))) later (searching slots q)
+  pub cut : Cut k s l cs earlier (book (q .slots)) says.Started (searching (q .slots) (started (q .slots) (q .deciding))) later (searching slots q)
   -- and no other start comes after it
   pub alone : (as₁ as₂ : List (Answer W)) → later ≡ as₁ ++ (says.Started ∷ as₂) → ⊥
 
@@ -107,5 +109,6 @@ total f (a ∷ answers) = f a + total f answers
 pub record Law {W : Type 0} (k : Kind W) (s : Shape) (cs : List Lent) (answers : List (Answer W)) (last : Ledger W) : Type 0 where
   pub told : Run k s (opened s) cs answers last
   -- ringless, exact and cheapest, wherever an answer is a plan taken
-  pub fair : (earlier : List (Answer W)) (plan : Plan W) (later : List (Answer W)) → answers ≡ earlier ++ (says.Taken plan ∷ later) → Taking k s cs earlier plan later last
+  pub fair : (earlier : List (Answer W)) (plan : Plan W) (later : List (Answer W))
+      → answers ≡ earlier ++ (says.Taken plan ∷ later) → Taking k s cs earlier plan later last
   pub counted : standing (slotsOf last) + total went answers ≡ total came answers

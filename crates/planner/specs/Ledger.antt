@@ -39,7 +39,7 @@ use Rattle.planner.specs.Search.{Decides, revoked, ringQuestion, firstMark, se
 
 pub record Search (W : Type 0) : Type 0 where
   pub slots : List (Slot W)
-  pub rows : List ℕ
+  pub deciding : List ℕ
   pub visits : ℕ
   pub place : Place
 
@@ -58,8 +58,8 @@ rowIn k (book xs) i = record { right = rightIn (getD xs i None); weight = weight
 rowIn k (searching xs q) i = record {
   right = rightIn (getD xs i None);
   weight = weightIn k (getD xs i None);
-  choice = firstMark (q .rows) (q .place .next) i;
-  held = secondMark (q .rows) (q .place .best) i;
+  choice = firstMark (q .deciding) (q .place .next) i;
+  held = secondMark (q .deciding) (q .place .best) i;
 }
 
 -- ---- refusals
@@ -165,19 +165,19 @@ reading k x = says.Read (rightIn x) (weightIn k x)
 
 -- a search that starts on the slots xs with the rows ds to decide
 abbrev pub started : {W : Type 0} → List (Slot W) → List ℕ → Search W
-started xs ds = record { slots = xs; rows = ds; visits = 0; place = begun }
+started xs ds = record { slots = xs; deciding = ds; visits = 0; place = begun }
 
 -- the search after an advance to v visits and the place p
 abbrev pub moved : {W : Type 0} → Search W → ℕ → Place → Search W
-moved q v p = record { slots = q .slots; rows = q .rows; visits = v; place = p }
+moved q v p = record { slots = q .slots; deciding = q .deciding; visits = v; place = p }
 
 -- the question that the search asks of its copy of the slots
 abbrev pub asks : {W : Type 0} → Kind W → Shape → Search W → Question W
-asks k s q = ringQuestion k s (q .slots) (q .rows)
+asks k s q = ringQuestion k s (q .slots) (q .deciding)
 
 -- the answer to a take of the plan that the node n revokes
 abbrev pub plan : {W : Type 0} → Kind W → Search W → Node → Answer W
-plan k q n = says.Taken (record { weight = weightOf k (revoked (q .rows) n) (q .slots); grants = numberOf (revoked (q .rows) n) (q .slots); visits = q .visits })
+plan k q n = says.Taken (record { weight = weightOf k (revoked (q .deciding) n) (q .slots); grants = numberOf (revoked (q .deciding) n) (q .slots); visits = q .visits })
 
 -- a rule for each call; while a search has the book its copy is equal to the slots, since no rule changes them
 pub data Done {W : Type 0} (k : Kind W) (s : Shape) : Ledger W → Call → Answer W → Ledger W → Type 0 where
@@ -188,15 +188,18 @@ pub data Done {W : Type 0} (k : Kind W) (s : Shape) : Ledger W → Call → Answ
   start : {xs : List (Slot W)} {ds : List ℕ} → Decides s xs ds → Done k s (book xs) call.Start says.Started (searching xs (started xs ds))
   advance : {xs : List (Slot W)} {q : Search W} {b v : ℕ} {p : Place} → Advanced k (asks k s q) b (q .visits) (q .place) v p
       → Done k s (searching xs q) (call.Advance b) (says.Advanced (record { visits = v; ended = not (nodeLeft p) })) (searching xs (moved q v p))
-  take : {xs : List (Slot W)} {q : Search W} {n : Node} → q .place .best ≡ Some n → Done k s (searching xs q) call.Take (plan k q n) (book (without (revoked (q .rows) n) xs))
+  take : {xs : List (Slot W)} {q : Search W} {n : Node} → q .place .best ≡ Some n
+      → Done k s (searching xs q) call.Take (plan k q n) (book (without (revoked (q .deciding) n) xs))
   abandon : {xs : List (Slot W)} {q : Search W} → Done k s (searching xs q) call.Abandon says.Abandoned (book xs)
 
 -- a call that is not admitted, or refused, leaves the ledger as it is
 pub data Told {W : Type 0} (k : Kind W) (s : Shape) (l : Ledger W) (c : Lent) : Answer W → Ledger W → Type 0 where
   misuse : admitted l (c .call) ≡ false → Told k s l c says.Misuse l
   refused : {why : Refusal} → admitted l (c .call) ≡ true → refusal k s l (c .call) (c .rows) ≡ Some why → Told k s l c (says.Refused why) l
-  done : {a : Answer W} {l′ : Ledger W} → admitted l (c .call) ≡ true → refusal k s l (c .call) (c .rows) ≡ None → Done k s l (c .call) a l′ → Told k s l c a l′
+  done : {a : Answer W} {l′ : Ledger W} → admitted l (c .call) ≡ true → refusal k s l (c .call) (c .rows) ≡ None → Done k s l (c .call) a l′
+      → Told k s l c a l′
 
 pub data Run {W : Type 0} (k : Kind W) (s : Shape) : Ledger W → List Lent → List (Answer W) → Ledger W → Type 0 where
   none : {l : Ledger W} → Run k s l [] [] l
-  then : {l m n : Ledger W} {c : Lent} {a : Answer W} {cs : List Lent} {answers : List (Answer W)} → Told k s l c a m → Run k s m cs answers n → Run k s l (c ∷ cs) (a ∷ answers) n
+  then : {l m n : Ledger W} {c : Lent} {a : Answer W} {cs : List Lent} {answers : List (Answer W)}
+      → Told k s l c a m → Run k s m cs answers n → Run k s l (c ∷ cs) (a ∷ answers) n

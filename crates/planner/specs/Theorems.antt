@@ -77,12 +77,13 @@ inOrder (c ∷ n) = inOrder n ++ (c ∷ [])
 -- the marks of the rows while a search has the book
 pub record Marked {W : Type 0} (k : Kind W) (l : Ledger W) (q : Search W) (choices : List Decision) : Type 0 where
   -- of the rows to decide, by the choices of the node to be visited next
-  pub chosen : (j : ℕ) → j < length choices → rowIn k l (getD (q .rows) j 0) .choice ≡ markOf (Some (getD choices j keep))
-  pub undecided : (j : ℕ) → length choices ≤ j → j < length (q .rows) → rowIn k l (getD (q .rows) j 0) .choice ≡ Undecided
-  pub held : (j : ℕ) (b : Node) → j < length (q .rows) → q .place .best ≡ Some b → rowIn k l (getD (q .rows) j 0) .held ≡ isRevoke (Some (getD (inOrder b) j keep))
+  pub chosen : (j : ℕ) → j < length choices → rowIn k l (getD (q .deciding) j 0) .choice ≡ markOf (Some (getD choices j keep))
+  pub undecided : (j : ℕ) → length choices ≤ j → j < length (q .deciding) → rowIn k l (getD (q .deciding) j 0) .choice ≡ Undecided
+  pub held : (j : ℕ) (b : Node) → j < length (q .deciding) → q .place .best ≡ Some b
+      → rowIn k l (getD (q .deciding) j 0) .held ≡ isRevoke (Some (getD (inOrder b) j keep))
   pub none-held : (i : ℕ) → q .place .best ≡ None → rowIn k l i .held ≡ false
   -- of all others
-  pub blank : (i : ℕ) → (In i (q .rows) → ⊥) → (rowIn k l i .choice ≡ Blank) × (rowIn k l i .held ≡ false)
+  pub blank : (i : ℕ) → (In i (q .deciding) → ⊥) → (rowIn k l i .choice ≡ Blank) × (rowIn k l i .held ≡ false)
 
 -- the marks of all rows where the ledger stands
 abbrev pub MarksOf : {W : Type 0} → Kind W → Ledger W → Type 0

@@ -77,13 +77,14 @@ abbrev pub levelTrial : Trial Sum
 levelTrial = record { shape = two-by-two; grants = firstTrial .grants; weight = record { value = 9 }; revokes = (1, 1) ∷ []; visits = 9; order = 1 ∷ 0 ∷ [] }
 
 pub record WrongPlanners : Type 0 where
-  pub decides : Decides two-by-two (seeker .slots) (seeker .rows)
+  pub decides : Decides two-by-two (seeker .slots) (seeker .deciding)
   -- it revokes every grant on a ring: not cheapest
-  pub all-on-rings : Cheapest sumKind two-by-two seeker (weightOf sumKind (λ i. isIn i (seeker .rows)) (seeker .slots)) → ⊥
+  pub all-on-rings : Cheapest sumKind two-by-two seeker (weightOf sumKind (λ i. isIn i (seeker .deciding)) (seeker .slots)) → ⊥
   -- it takes an empty plan: not ringless
   pub empty-plan : Ring (rightsIn two-by-two (without (λ _. false) (seeker .slots)))
   -- it makes no visit, and says ended or not: not told
-  pub no-visit : (c : Lent) (ended : Bool) (l : Ledger Sum) → Told sumKind two-by-two (searching (slots sumKind) seeker) c (says.Advanced (record { visits = 0; ended = ended })) l → ⊥
+  pub no-visit : (c : Lent) (ended : Bool) (l : Ledger Sum)
+      → Told sumKind two-by-two (searching (slots sumKind) seeker) c (says.Advanced (record { visits = 0; ended = ended })) l → ⊥
   -- it joins in another order: not exact, under a lawful kind that tells the orders apart
   pub lawful : Lawful rollKind
   pub in-row-order : Holds rollKind rollTrial
