@@ -1,5 +1,6 @@
 -- What is proved of every walk and every run, as statements that contracts name.
---     EndsWithin k s xs ds m   the walk over the grants ds of the slots xs is one, makes at most m visits, goes on while a node is left, and ends with a best plan
+--     EndsWithin k s xs ds m   over the grants ds of the slots xs, as many visits lead to one place; a walk makes at most m visits, goes on while
+--                              a node is left, and ends with a best plan
 --     WalksEnd k               every walk ends within 2^(n+1) − 1 visits, where n grants are to decide
 --     WalksAgree k             the walk that computes is the walk of the relation, and the rows to decide that compute are those to decide
 --     Settles k                the search's condition follows from the one before it, the test that settled the visit, and whether a keep is left to turn

@@ -1,6 +1,6 @@
-// What is proved of every walk and every run, for every weight kind: each function's contract is the theorem.
-ghost use Rattle.planner.specs.Theorems.{OpensFit, RowsShow, RunsAreTold, RunsObey, Settles, TestsAnswer, WalksAgree, WalksEnd};
+// What is proved of walks and runs: each function's contract is the theorem, and with a W it holds for every weight kind.
 ghost use Rattle.mesh.specs.Kind.{Lawful};
+ghost use Rattle.planner.specs.Theorems.{OpensFit, RowsShow, RunsAreTold, RunsObey, Settles, TestsAnswer, WalksAgree, WalksEnd};
 ghost use Rattle.planner.specs.Tried.{Tried};
 ghost use Rattle.planner.specs.WrongPlanners.{WrongPlanners, level};
 use mesh::peak::Peak;
@@ -9,7 +9,7 @@ use mesh::sum::Sum;
 use mesh::sum::SumWeight;
 use mesh::weight::Weight;
 
-// Every walk goes on while a node is left, and ends within 2^(k + 1) − 1 visits with a best plan, where k grants are to decide.
+// Every walk goes on while a node is left, and ends with a best plan within 2^(k + 1) − 1 visits, where k grants are to decide.
 pub fn walks_end<W: Weight>()
     ensures ends { λ _. ⌜ WalksEnd (W·Weight .meaning) ⌝ }
 {}
@@ -19,7 +19,7 @@ pub fn walks_agree<W: Weight>()
     ensures agree { λ _. ⌜ WalksAgree (W·Weight .meaning) ⌝ }
 {}
 
-// The condition after a visit follows from the condition before it and the test that settled the visit.
+// The condition after a visit follows from the condition before it, the test that settled the visit, and whether a keep is left to turn.
 pub fn conditions_settle<W: Weight>()
     ensures follows { λ _. ⌜ Settles (W·Weight .meaning) ⌝ }
 {}
