@@ -1,7 +1,7 @@
 -- From the rows to the points that devices read and write, and from these to followers.
 use mathlib.Core.Path.{_≡_, refl, sym, ap, ap₂, _∙_, subst}
 use mathlib.Core.Bool.{Bool, true, false, cond, _&&_, not}
-use mathlib.Core.List.{List, [], _∷_}
+use mathlib.Core.List.{List, [], _∷_, map}
 use mathlib.Core.Logic.{_⊎_, inl, inr, _≢_}
 use Prim.Native.Nat.{ℕ, zero, suc, _+_, _*_, _≤_, _<_}
 use native.Mathlib.Nat.{not-suc-le-zero, le-of-suc-le-suc, mul-le-mul-right, suc-mul}
@@ -19,7 +19,7 @@ use Rattle.mesh.specs.declared.row.Row.{Row}
 use Rattle.mesh.specs.declared.shape.Shape.{Shape}
 use Rattle.mesh.specs.Rights.{canRead, canWrite}
 use Rattle.mesh.specs.Table.{rowOf}
-use Rattle.flow.specs.Flow.{Rights, rightAt, rights, Source}
+use Rattle.flow.specs.Flow.{Rights, rightAt, placed, rights, Source}
 use Rattle.flow.specs.Followers.{Follows, Followers}
 use Rattle.flow.specs.Sets.{bit, flag, meets, setOf}
 use Rattle.flow.specs.Touched.{Touches, feeds}
@@ -93,23 +93,35 @@ flag-true : (b : Bool) → flag b ≡ 1 → b ≡ true
 flag-true true e = refl
 flag-true false e = absurd (omega arith)
 
-true-holds : (b : Bool) → b ≡ true → T b
+pub true-holds : (b : Bool) → b ≡ true → T b
 true-holds b e = subst T (sym e) tt
 
-holds-true : (b : Bool) → T b → b ≡ true
+pub holds-true : (b : Bool) → T b → b ≡ true
 holds-true true t = refl
 holds-true false t = absurd t
 
--- a device that touches a point is in the table
-touching-within : {W : Type 0} (test : Right → Bool) → test Empty ≡ false → (s : Shape) (rows : List (Row W)) (d p : ℕ) → T (test (rights s rows d p)) → d < s .devices
-touching-within test none s rows d p = go (ltb d (s .devices)) refl
+-- a right that lets a device do something stands in the table
+pub placed-within : (test : Right → Bool) → test Empty ≡ false → (s : Shape) (rs : List Right) (d p : ℕ) → T (test (placed s rs d p)) → (d < s .devices) × (p < s .points)
+placed-within test none s rs d p = go (ltb d (s .devices)) refl (ltb p (s .points)) refl
   where
-    go : (b : Bool) → ltb d (s .devices) ≡ b → T (test (cond (b && ltb p (s .points)) (rightAt rows (rowOf s d p)) Empty)) → d < s .devices
-    go true t h = ltb-true d (s .devices) t
-    go false t h = absurd (subst T none h)
+    go : (b : Bool) → ltb d (s .devices) ≡ b → (c : Bool) → ltb p (s .points) ≡ c → T (test (cond (b && c) (getD rs (rowOf s d p) Empty) Empty))
+        → (d < s .devices) × (p < s .points)
+    go true t true u h = (ltb-true d (s .devices) t, ltb-true p (s .points) u)
+    go true t false u h = absurd (subst T none h)
+    go false t c u h = absurd (subst T none h)
+
+-- all sources are devices of the table, by points of the table
+abbrev pub Inside : Shape → Rights → Type 0
+Inside s g = (a b : ℕ) (h : Source g a b) → (a < s .devices) × (b < s .devices) × (h .point < s .points)
+
+pub placed-inside : (s : Shape) (rs : List Right) → Inside s (placed s rs)
+placed-inside s rs a b h =
+    let w = placed-within canWrite refl s rs a (h .point) (h .written) in
+    let r = placed-within canRead refl s rs b (h .point) (h .read) in
+    (w .0, r .0, w .1)
 
 pub source-within : {W : Type 0} (s : Shape) (rows : List (Row W)) (a b : ℕ) → Source (rights s rows) a b → (a < s .devices) × (b < s .devices)
-source-within s rows a b h = (touching-within canWrite refl s rows a (h .point) (h .written), touching-within canRead refl s rows b (h .point) (h .read))
+source-within s rows a b h = let w = placed-inside s (map (λ r. r .right) rows) a b h in (w .0, w .1)
 
 -- what the sets of points say of sources
 pub feeds-source : (g : Rights) (f : Flow) (a b : ℕ) → Touches g f → feeds f a b ≡ true → Source g a b

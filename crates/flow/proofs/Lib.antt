@@ -3,3 +3,4 @@ pub mod SetLaws
 pub mod FlowLaws
 pub mod ReachLaws
 pub mod OrderLaws
+pub mod PathLaws

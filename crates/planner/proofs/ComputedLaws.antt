@@ -27,36 +27,32 @@ use Rattle.planner.specs.Ledger.{Ledger, book, searching, tooFew, refusal, adm
 use Rattle.planner.specs.FlowTests.{toDecide}
 use Rattle.planner.specs.Theorems.{WalksAgree, WalksEnd}
 use Rattle.planner.proofs.QuestionLaws.{few, next-fits, planned}
-use Rattle.planner.proofs.TestLaws.{clash}
+use Rattle.planner.proofs.TestLaws.{holds, fails, is-true, is-false, clash}
 use Rattle.planner.proofs.RingLaws.{has-ring, to-decide, decides-unique}
 use Rattle.planner.proofs.SoundLaws.{Sound, told-sound, opened-sound, walk-ended}
 use Rattle.planner.specs.Computed.{Tests, ringTests, isNoLess, outcomeOf, leads, walks, moves, takes, makes, replies, tell, run}
 
 -- ---- the walk
 
--- a test answers a proposition
-abbrev Answers : Bool → Type 0 → Type 0
-Answers b P = (T b → P) × (P → T b)
+-- a test decides a proposition
+abbrev Decided : Bool → Type 0 → Type 0
+Decided b P = (T b → P) × (P → T b)
 
-holds : {P : Type 0} (b : Bool) → Answers b P → b ≡ true → P
-holds true d e = d .0 tt
-holds false d e = absurd (clash (cc))
+passes : {P : Type 0} (b : Bool) → Decided b P → b ≡ true → P
+passes b d e = d .0 (holds b e)
 
-fails : {P : Type 0} (b : Bool) → Answers b P → b ≡ false → P → ⊥
-fails true d e h = clash (cc)
-fails false d e h = d .1 h
+stops : {P : Type 0} (b : Bool) → Decided b P → b ≡ false → P → ⊥
+stops b d e h = fails b e (d .1 h)
 
-is-true : {P : Type 0} (b : Bool) → Answers b P → P → b ≡ true
-is-true true d h = refl
-is-true false d h = absurd (d .1 h)
+passed : {P : Type 0} (b : Bool) → Decided b P → P → b ≡ true
+passed b d h = is-true b (d .1 h)
 
-is-false : {P : Type 0} (b : Bool) → Answers b P → (P → ⊥) → b ≡ false
-is-false true d h = absurd (h (d .0 tt))
-is-false false d h = refl
+stopped : {P : Type 0} (b : Bool) → Decided b P → (P → ⊥) → b ≡ false
+stopped b d h = is-false b (λ t. h (d .0 t))
 
-no-less-answers : {W : Type 0} (k : Kind W) (q : Question W) (b : Option Node) (n : Node) → Answers (isNoLess k q b n) (NoLess k q b n)
-no-less-answers k q None n = ((λ h. h), λ h. h)
-no-less-answers k q (Some b) n = ((λ h. h), λ h. h)
+no-less-decided : {W : Type 0} (k : Kind W) (q : Question W) (b : Option Node) (n : Node) → Decided (isNoLess k q b n) (NoLess k q b n)
+no-less-decided k q None n = ((λ h. h), λ h. h)
+no-less-decided k q (Some b) n = ((λ h. h), λ h. h)
 
 module _ {W : Type 0} (k : Kind W) (q : Question W) (t : Tests)
     (hopeless : (n : Node) → (T (t .hopeless n) → q .Hopeless n) × (q .Hopeless n → T (t .hopeless n)))
@@ -65,14 +61,14 @@ module _ {W : Type 0} (k : Kind W) (q : Question W) (t : Tests)
   visit-computed n b = go (isNoLess k q b n) refl (t .hopeless n) refl (t .solved n) refl
     where
       less : isNoLess k q b n ≡ false → NoLess k q b n → ⊥
-      less = fails _ (no-less-answers k q b n)
+      less = stops _ (no-less-decided k q b n)
 
       go : (x : Bool) → isNoLess k q b n ≡ x → (y : Bool) → t .hopeless n ≡ y → (z : Bool) → t .solved n ≡ z
           → let o = cond x by.NoLess (cond y by.Hopeless (cond z by.BestPlan by.Opened)) in Visit k q n b o (leads o n b)
-      go true e y f z g = no-less (holds _ (no-less-answers k q b n) e)
-      go false e true f z g = hopeless-node (less e) (holds _ (hopeless n) f)
-      go false e false f true g = best-plan (less e) (fails _ (hopeless n) f) (holds _ (solved n) g)
-      go false e false f false g = open-node (less e) (fails _ (hopeless n) f) (fails _ (solved n) g)
+      go true e y f z g = no-less (passes _ (no-less-decided k q b n) e)
+      go false e true f z g = hopeless-node (less e) (passes _ (hopeless n) f)
+      go false e false f true g = best-plan (less e) (stops _ (hopeless n) f) (passes _ (solved n) g)
+      go false e false f false g = open-node (less e) (stops _ (hopeless n) f) (stops _ (solved n) g)
 
   pub visit-told : {n : Node} {b : Option Node} {o : Outcome} {p : Place} → Visit k q n b o p → (o ≡ outcomeOf k q t n b) × (p ≡ leads (outcomeOf k q t n b) n b)
   visit-told {n} {b} v = let e = outcome v in (e, place v ∙ ap (λ x. leads x n b) e)
@@ -84,10 +80,10 @@ module _ {W : Type 0} (k : Kind W) (q : Question W) (t : Tests)
       place (open-node h r s) = refl
 
       outcome : {o : Outcome} {p : Place} → Visit k q n b o p → o ≡ outcomeOf k q t n b
-      outcome (no-less h) = rw (is-true _ (no-less-answers k q b n) h)
-      outcome (hopeless-node h r) = rw (is-false _ (no-less-answers k q b n) h, is-true _ (hopeless n) r)
-      outcome (best-plan h r s) = rw (is-false _ (no-less-answers k q b n) h, is-false _ (hopeless n) r, is-true _ (solved n) s)
-      outcome (open-node h r s) = rw (is-false _ (no-less-answers k q b n) h, is-false _ (hopeless n) r, is-false _ (solved n) s)
+      outcome (no-less h) = rw (passed _ (no-less-decided k q b n) h)
+      outcome (hopeless-node h r) = rw (stopped _ (no-less-decided k q b n) h, passed _ (hopeless n) r)
+      outcome (best-plan h r s) = rw (stopped _ (no-less-decided k q b n) h, stopped _ (hopeless n) r, passed _ (solved n) s)
+      outcome (open-node h r s) = rw (stopped _ (no-less-decided k q b n) h, stopped _ (hopeless n) r, stopped _ (solved n) s)
 
   -- as many visits from one place lead to one place
   walked-once : {v : ℕ} {p a b : Place} → Walked k q v p a → Walked k q v p b → a ≡ b
@@ -131,31 +127,31 @@ module _ {W : Type 0} (k : Kind W) (q : Question W) (t : Tests)
 
 -- ---- the ledger
 
-not-answers : {P : Type 0} (b : Bool) → Answers b P → Answers (not b) (P → ⊥)
-not-answers true d = ((λ h. absurd h), λ n. n (d .0 tt))
-not-answers false d = ((λ h p. d .1 p), λ n. tt)
+not-decided : {P : Type 0} (b : Bool) → Decided b P → Decided (not b) (P → ⊥)
+not-decided true d = ((λ h. absurd h), λ n. n (d .0 tt))
+not-decided false d = ((λ h p. d .1 p), λ n. tt)
 
 -- ---- rings
 
 module _ {W : Type 0} (k : Kind W) (s : Shape) (xs : List (Slot W)) (ds : List ℕ) where
-  hopeless-answers : (n : Node) → Answers (ringTests s xs ds .hopeless n) (ringQuestion k s xs ds .Hopeless n)
-  hopeless-answers n = has-ring s (map rightIn (only (kept ds n) xs))
+  hopeless-decided : (n : Node) → Decided (ringTests s xs ds .hopeless n) (ringQuestion k s xs ds .Hopeless n)
+  hopeless-decided n = has-ring s (map rightIn (only (kept ds n) xs))
 
-  solved-answers : (n : Node) → Answers (ringTests s xs ds .solved n) (ringQuestion k s xs ds .Solved n)
-  solved-answers n = not-answers _ (has-ring s (map rightIn (without (revoked ds n) xs)))
+  solved-decided : (n : Node) → Decided (ringTests s xs ds .solved n) (ringQuestion k s xs ds .Solved n)
+  solved-decided n = not-decided _ (has-ring s (map rightIn (without (revoked ds n) xs)))
 
   ring-visit : (n : Node) (b : Option Node) → (t : Outcome) × (p : Place) × Visit k (ringQuestion k s xs ds) n b t p
-  ring-visit n b = (_, _, visit-computed k (ringQuestion k s xs ds) (ringTests s xs ds) hopeless-answers solved-answers n b)
+  ring-visit n b = (_, _, visit-computed k (ringQuestion k s xs ds) (ringTests s xs ds) hopeless-decided solved-decided n b)
 
   ring-advance : (budget before : ℕ) (next best : Option Node)
       → Advanced k (ringQuestion k s xs ds) budget before (at next best) (before + walks k (ringQuestion k s xs ds) (ringTests s xs ds) budget next best .0)
       (walks k (ringQuestion k s xs ds) (ringTests s xs ds) budget next best .1)
-  ring-advance = advance-computed k (ringQuestion k s xs ds) (ringTests s xs ds) hopeless-answers solved-answers
+  ring-advance = advance-computed k (ringQuestion k s xs ds) (ringTests s xs ds) hopeless-decided solved-decided
 
 pub walks-agree : {W : Type 0} (k : Kind W) → WalksAgree k
 walks-agree k s xs ds = record {
   advances = ring-advance k s xs ds;
-  no-other = λ budget before visits p p′ a. advance-told k (ringQuestion k s xs ds) (ringTests s xs ds) (hopeless-answers k s xs ds) (solved-answers k s xs ds) a;
+  no-other = λ budget before visits p p′ a. advance-told k (ringQuestion k s xs ds) (ringTests s xs ds) (hopeless-decided k s xs ds) (solved-decided k s xs ds) a;
   decides = to-decide s xs;
   no-others = λ d. decides-unique s xs ds (toDecide s xs) d (to-decide s xs);
 }
@@ -168,7 +164,7 @@ module _ {W : Type 0} (k : Kind W) (law : Lawful k) where
     onward = λ v n b w. ring-visit k s xs ds n b;
     ends = ends;
     planned = λ v p w e. let plan = planned k law s xs ds decides p w e in (plan .0, plan .1);
-    one = λ v p p′. walked-once k (ringQuestion k s xs ds) (ringTests s xs ds) (hopeless-answers k s xs ds) (solved-answers k s xs ds);
+    one = λ v p p′. walked-once k (ringQuestion k s xs ds) (ringTests s xs ds) (hopeless-decided k s xs ds) (solved-decided k s xs ds);
   }
     where
       -- within more visits than the walk can make, it ends
@@ -218,7 +214,7 @@ module _ {W : Type 0} (k : Kind W) (law : Lawful k) (s : Shape) where
   makes-told h read = refl
   makes-told h (start {xs = xs} {ds = ds} d) = ap (λ (ds : List ℕ). (says.Started, searching xs (started xs ds))) (decides-unique s xs ds (toDecide s xs) d (to-decide s xs))
   makes-told h (advance {xs = xs} {q = q} {p = p} m) =
-      let told = advance-told k (asks k s q) (ringTests s (q .slots) (q .deciding)) (hopeless-answers k s (q .slots) (q .deciding)) (solved-answers k s (q .slots) (q .deciding)) m in
+      let told = advance-told k (asks k s q) (ringTests s (q .slots) (q .deciding)) (hopeless-decided k s (q .slots) (q .deciding)) (solved-decided k s (q .slots) (q .deciding)) m in
       ap (λ v. moves xs q v p) (told .0) ∙ ap (moves xs q _) (told .1)
   makes-told h (take {xs = xs} {q = q} e) = ap (takes k xs q) (sym e)
   makes-told h abandon = refl

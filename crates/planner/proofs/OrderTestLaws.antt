@@ -14,8 +14,9 @@ use Rattle.flow.specs.Order.{Ready, Lowest, FlowOrder}
 use Rattle.planner.specs.Search.{isIn}
 use Rattle.planner.specs.Theorems.{TestsAnswer}
 use Rattle.planner.specs.FlowTests.{isSource, allBelow, allDifferent, isReady, isLowest, isOrder}
+use Rattle.flow.proofs.FlowLaws.{placed-inside}
 use Rattle.planner.proofs.TestLaws.{both, parts, either, test-equal, all-below, below-all, in-test, test-in, test-not, not-test}
-use Rattle.planner.proofs.RingLaws.{is-source, source-is, placed-inside, has-ring, on-ring, ring-on}
+use Rattle.planner.proofs.RingLaws.{is-source, source-is, has-ring, on-ring, ring-on}
 
 different : (xs : List ℕ) → T (allDifferent xs) → Different xs
 different [] t = tt

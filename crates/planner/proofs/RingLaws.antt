@@ -1,56 +1,25 @@
 -- The tests of rings answer the propositions, and the rows to decide are those of the grants on a ring.
-use mathlib.Core.Path.{_≡_, refl, sym, ap₂, _∙_, subst}
+use mathlib.Core.Path.{_≡_, refl, sym, ap₂, subst}
 use mathlib.Core.Bool.{Bool, true, false, cond, not, _&&_, _||_}
-use mathlib.Core.List.{List, [], _∷_, _++_, map}
+use mathlib.Core.List.{List, [], _∷_, map}
 use mathlib.Core.Logic.{_⊎_, inl, inr}
 use Prim.Native.Nat.{ℕ, zero, suc, _+_, _/_, _%_, _≤_, _<_}
 use native.Mathlib.Nat.{not-suc-le-zero, div-add-mod'}
 use native.Mathlib.Omega.{arith}
-use lib.Dec.{T, ltb, eqb}
-use lib.ListN.{getD}
+use lib.Dec.{T, eqb}
 use Rattle.std.proofs.shelf.Bits.{mul-add-lt, div-mul-add, mod-mul-add}
-use Rattle.std.proofs.shelf.Tests.{ltb-true, cases-eq}
+use Rattle.std.proofs.shelf.Tests.{cases-eq}
 use Rattle.mesh.specs.declared.right.Right.{Right}
-use Rattle.mesh.specs.declared.right.Right.the-variants.{Empty}
 use Rattle.mesh.specs.declared.shape.Shape.{Shape}
 use Rattle.mesh.specs.Rights.{canRead, canWrite}
 use Rattle.mesh.specs.Table.{rowOf, rowsOf, InTable}
-use Rattle.flow.specs.Flow.{Rights, placed, Source, Path, step, further, In, Different, Chain, Ring, Adjacent, OnRing}
+use Rattle.flow.specs.Flow.{Rights, placed, Source, Path, step, further, In, Ring, OnRing}
+use Rattle.flow.proofs.FlowLaws.{Inside, placed-within, placed-inside}
+use Rattle.flow.proofs.PathLaws.{joined, ring-through, adjacent-source, adjacent-back, ring-path, path-ring}
 use Rattle.planner.specs.Grants.{Slot, rightIn, rightsIn}
 use Rattle.planner.specs.Search.{Rising, Decides}
 use Rattle.planner.proofs.TestLaws.{both, parts, by-first, by-second, either, equal-test, test-equal, apart-test, test-apart, any-found, any-below}
 use Rattle.planner.specs.FlowTests.{anyBelow, isSource, flowsTo, hasRing, stepOnRing, onRing, passing, toDecide}
-
--- ---- rights stand only in the table
-
-pub placed-within : (test : Right → Bool) → test Empty ≡ false → (s : Shape) (rs : List Right) (d p : ℕ) → T (test (placed s rs d p)) → (d < s .devices) × (p < s .points)
-placed-within test none s rs d p = go (ltb d (s .devices)) refl (ltb p (s .points)) refl
-  where
-    go : (b : Bool) → ltb d (s .devices) ≡ b → (c : Bool) → ltb p (s .points) ≡ c → T (test (cond (b && c) (getD rs (rowOf s d p) Empty) Empty))
-        → (d < s .devices) × (p < s .points)
-    go true t true u h = (ltb-true d (s .devices) t, ltb-true p (s .points) u)
-    go true t false u h = absurd (subst T none h)
-    go false t c u h = absurd (subst T none h)
-
--- all sources are devices of the table, by points of the table
-abbrev pub Inside : Shape → Rights → Type 0
-Inside s g = (a b : ℕ) (h : Source g a b) → (a < s .devices) × (b < s .devices) × (h .point < s .points)
-
-pub placed-inside : (s : Shape) (rs : List Right) → Inside s (placed s rs)
-placed-inside s rs a b h =
-    let w = placed-within canWrite refl s rs a (h .point) (h .written) in
-    let r = placed-within canRead refl s rs b (h .point) (h .read) in
-    (w .0, r .0, w .1)
-
--- ---- paths
-
-joined : {R : ℕ → ℕ → Type 0} {a b c : ℕ} → Path R a b → Path R b c → Path R a c
-joined p (step r) = further p r
-joined p (further q r) = further (joined p q) r
-
-chain-path : (g : Rights) (a : ℕ) (xs : List ℕ) (b : ℕ) → Chain g a xs b → Path (Source g) a b
-chain-path g a [] b c = step c
-chain-path g a (x ∷ xs) b c = joined (step (c .0)) (chain-path g x xs b (c .1))
 
 module _ (s : Shape) (g : Rights) where
   pub is-source : (a b : ℕ) → T (isSource s g a b) → Source g a b
@@ -114,85 +83,7 @@ module _ (s : Shape) (g : Rights) where
     path-start {a} {b} (step r) = inside a b r .0
     path-start (further p r) = path-start p
 
--- ---- from a path to a chain that comes to no device twice
-
-record Simple (g : Rights) (b a : ℕ) : Type 0 where
-  pub over : List ℕ
-  pub chain : Chain g b over a
-  pub different : Different (b ∷ over)
-  pub before : In a (b ∷ over) → ⊥
-
--- the part of a chain that begins at one of its devices
-from-there : (g : Rights) (a c b : ℕ) (over : List ℕ) → Chain g b over a → Different (b ∷ over) → (In a (b ∷ over) → ⊥) → In c (b ∷ over) → Simple g c a
-from-there g a c b over h d n (inl e) = subst (λ x. Simple g x a) (sym e) (record { over = over; chain = h; different = d; before = n })
-from-there g a c b [] h d n (inr i) = absurd i
-from-there g a c b (x ∷ xs) h d n (inr i) = from-there g a c x xs (h .1) (d .1) (λ j. n (inr j)) i
-
-in-or-not : (c : ℕ) (xs : List ℕ) → In c xs ⊎ (In c xs → ⊥)
-in-or-not c [] = inr (λ i. i)
-in-or-not c (x ∷ xs) = go (cases-eq c x) (in-or-not c xs)
-  where
-    go : (c ≡ x) ⊎ (c ≡ x → ⊥) → In c xs ⊎ (In c xs → ⊥) → In c (x ∷ xs) ⊎ (In c (x ∷ xs) → ⊥)
-    go (inl e) r = inl (inl e)
-    go (inr ne) (inl i) = inl (inr i)
-    go (inr ne) (inr out) = inr (λ i. elim i [ inl e ↦ ne e | inr j ↦ out j ])
-
-one-before : (g : Rights) (a c b : ℕ) → Source g c b → (b ≡ a) ⊎ Simple g b a → (c ≡ a) ⊎ Simple g c a
-one-before g a c b h (inl e) = inr (record {
-  over = [];
-  chain = subst (Source g c) e h;
-  different = ((λ i. i), tt);
-  before = λ i. elim i [ inl q ↦ h .apart (sym q ∙ sym e) | inr j ↦ j ];
-})
-one-before g a c b h (inr k) = go (cases-eq c a) (in-or-not c (b ∷ k .over))
-  where
-    go : (c ≡ a) ⊎ (c ≡ a → ⊥) → In c (b ∷ k .over) ⊎ (In c (b ∷ k .over) → ⊥) → (c ≡ a) ⊎ Simple g c a
-    go (inl e) r = inl e
-    go (inr ne) (inl i) = inr (from-there g a c b (k .over) (k .chain) (k .different) (k .before) i)
-    go (inr ne) (inr out) = inr (record {
-      over = b ∷ k .over;
-      chain = (h, k .chain);
-      different = (out, k .different);
-      before = λ i. elim i [ inl e ↦ ne (sym e) | inr j ↦ k .before j ];
-    })
-
-simplified : (g : Rights) (a : ℕ) {c b : ℕ} → Path (Source g) c b → (b ≡ a) ⊎ Simple g b a → (c ≡ a) ⊎ Simple g c a
-simplified g a {c} {b} (step h) k = one-before g a c b h k
-simplified g a {c} {b} (further {b = m} p h) k = simplified g a p (one-before g a m b h k)
-
 -- ---- rings
-
-pub ring-through : (g : Rights) (a b : ℕ) → Source g a b → Path (Source g) b a → (r : Ring g) × Adjacent a b (r .first ∷ (r .others ++ (r .first ∷ [])))
-ring-through g a b h p = go (simplified g a p (inl refl))
-  where
-    go : (b ≡ a) ⊎ Simple g b a → (r : Ring g) × Adjacent a b (r .first ∷ (r .others ++ (r .first ∷ [])))
-    go (inl e) = absurd (h .apart (sym e))
-    go (inr k) = (record { first = a; others = b ∷ k .over; several = omega arith; different = (k .before, k .different); round = (h, k .chain) }, inl (refl, refl))
-
-source-in-chain : (g : Rights) (a b x : ℕ) (xs : List ℕ) (y : ℕ) → Chain g x xs y → Adjacent a b (x ∷ (xs ++ (y ∷ []))) → Source g a b
-source-in-chain g a b x [] y c (inl e) = rw (e .0, e .1) c
-source-in-chain g a b x [] y c (inr i) = absurd i
-source-in-chain g a b x (z ∷ zs) y c (inl e) = rw (e .0, e .1) (c .0)
-source-in-chain g a b x (z ∷ zs) y c (inr i) = source-in-chain g a b z zs y (c .1) i
-
-pub adjacent-source : (g : Rights) (r : Ring g) (a b : ℕ) → Adjacent a b (r .first ∷ (r .others ++ (r .first ∷ []))) → Source g a b
-adjacent-source g r a b i = source-in-chain g a b (r .first) (r .others) (r .first) (r .round) i
-
-back-around : (g : Rights) (a b x : ℕ) (xs : List ℕ) (y : ℕ) → Chain g x xs y → Path (Source g) y x → Adjacent a b (x ∷ (xs ++ (y ∷ []))) → Path (Source g) b a
-back-around g a b x [] y c p (inl e) = rw (e .0, e .1) p
-back-around g a b x [] y c p (inr i) = absurd i
-back-around g a b x (z ∷ zs) y c p (inl e) = rw (e .0, e .1) (joined (chain-path g z zs y (c .1)) p)
-back-around g a b x (z ∷ zs) y c p (inr i) = back-around g a b z zs y (c .1) (further p (c .0)) i
-
-ring-path : (g : Rights) (r : Ring g) → Path (Source g) (r .first) (r .first)
-ring-path g r = chain-path g (r .first) (r .others) (r .first) (r .round)
-
-pub adjacent-back : (g : Rights) (r : Ring g) (a b : ℕ) → Adjacent a b (r .first ∷ (r .others ++ (r .first ∷ []))) → Path (Source g) b a
-adjacent-back g r a b i = back-around g a b (r .first) (r .others) (r .first) (r .round) (ring-path g r) i
-
-path-ring : (g : Rights) (a b : ℕ) → a ≡ b → Path (Source g) a b → Ring g
-path-ring g a b e (step h) = absurd (h .apart e)
-path-ring g a b e (further {b = m} p h) = ring-through g m b h (subst (λ x. Path (Source g) x m) e p) .0
 
 pub has-ring : (s : Shape) (rs : List Right) → (T (hasRing s (placed s rs)) → Ring (placed s rs)) × (Ring (placed s rs) → T (hasRing s (placed s rs)))
 has-ring s rs = (found, stands)

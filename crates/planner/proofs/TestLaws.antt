@@ -9,18 +9,12 @@ use native.Mathlib.Omega.{arith}
 use lib.Dec.{T, eqb}
 use Rattle.std.proofs.shelf.Tests.{eqb-true, eq-eqb, ne-eqb, cases-eq}
 use Rattle.flow.specs.Flow.{In}
+pub use Rattle.flow.proofs.FlowLaws.{true-holds as holds, holds-true as is-true}
 use Rattle.planner.specs.Search.{isIn}
 use Rattle.planner.specs.FlowTests.{anyBelow, allBelow}
 
-pub holds : (b : Bool) → b ≡ true → T b
-holds b e = subst T (sym e) tt
-
 pub fails : (b : Bool) → b ≡ false → T b → ⊥
 fails b e h = subst T e h
-
-pub is-true : (b : Bool) → T b → b ≡ true
-is-true true h = refl
-is-true false h = absurd h
 
 pub is-false : (b : Bool) → (T b → ⊥) → b ≡ false
 is-false true n = absurd (n tt)

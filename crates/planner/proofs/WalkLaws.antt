@@ -121,20 +121,60 @@ abbrev pub Good : {W : Type 0} → Question W → ℕ → Option Node → Type 0
 Good q size None = Unit {0}
 Good q size (Some b) = (length b ≤ size) × q .Solved b
 
-module _ {W : Type 0} (k : Kind W) (q : Question W) (size : ℕ) (full : (n : Node) → length n ≡ size → (q .Hopeless n → ⊥) → q .Solved n) where
-  fits-after : (n : Node) → length n ≤ size → Fits size (after n)
-  fits-after [] h = tt
-  fits-after (keep ∷ n) h = h
-  fits-after (revoke ∷ n) h = fits-after n (omega arith)
+fits-after : (size : ℕ) (n : Node) → length n ≤ size → Fits size (after n)
+fits-after size [] h = tt
+fits-after size (keep ∷ n) h = h
+fits-after size (revoke ∷ n) h = fits-after size n (omega arith)
 
+-- ---- how many visits are left
+
+-- the nodes from one on which d grants are still to decide, down
+below : ℕ → ℕ
+below zero = 1
+below (suc d) = suc (below d + below d)
+
+below-some : (d : ℕ) → 0 < below d
+unfolding below
+below-some zero = omega arith
+below-some (suc d) = omega arith
+
+below-power : (d : ℕ) → below d + 1 ≡ 2 ^ (d + 1)
+unfolding below
+below-power zero = refl
+below-power (suc d) =
+    let e = below-power d in
+    let p : 2 ^ (suc d + 1) ≡ 2 ^ (d + 1) * 2 = ap (λ i. 2 ^ i) (omega arith) ∙ pow-suc 2 (d + 1) in
+    omega arith
+
+-- the nodes that are visited after all below n, on which d grants are still to decide
+later : ℕ → Node → ℕ
+later d [] = 0
+later d (keep ∷ n) = below d + later (suc d) n
+later d (revoke ∷ n) = later (suc d) n
+
+-- of size grants to decide, at most m visits are left
+abbrev Left : ℕ → Option Node → ℕ → Type 0
+Left size None m = Unit {0}
+Left size (Some n) m = (d : ℕ) × (d + length n ≡ size) × (below d + later d n ≤ m)
+
+left-after : (size : ℕ) (n : Node) (d m : ℕ) → d + length n ≡ size → later d n ≤ m → Left size (after n) m
+unfolding later
+left-after size [] d m e h = tt
+left-after size (keep ∷ n) d m e h = (d, e, h)
+left-after size (revoke ∷ n) d m e h = left-after size n (suc d) m (omega arith) h
+
+left-closed : (size : ℕ) (n : Node) (m : ℕ) → Left size (Some n) (suc m) → Left size (after n) m
+left-closed size n m l = let s = below-some (l .0) in left-after size n (l .0) m (l .1) (omega arith)
+
+module _ {W : Type 0} (k : Kind W) (q : Question W) (size : ℕ) (full : (n : Node) → length n ≡ size → (q .Hopeless n → ⊥) → q .Solved n) where
   -- a node with a choice for every grant is not opened
   fits-deeper : (n : Node) → (q .Hopeless n → ⊥) → (q .Solved n → ⊥) → length n ≤ size → length n < size
-  fits-deeper n h u l = elim (cases-lt (length n) (size)) [ inl lt ↦ lt | inr ge ↦ absurd (u (full n (omega arith) h)) ]
+  fits-deeper n h u l = elim (cases-lt (length n) size) [ inl lt ↦ lt | inr ge ↦ absurd (u (full n (omega arith) h)) ]
 
   visit-good : {n : Node} {b : Option Node} {t : Outcome} {p : Place} → Visit k q n b t p → Fits size (Some n) → Good q size b → Fits size (p .next) × Good q size (p .best)
-  visit-good {n} (no-less h) f g = (fits-after n f, g)
-  visit-good {n} (hopeless-node h bad) f g = (fits-after n f, g)
-  visit-good {n} (best-plan h ok solved) f g = (fits-after n f, (f, solved))
+  visit-good {n} (no-less h) f g = (fits-after size n f, g)
+  visit-good {n} (hopeless-node h bad) f g = (fits-after size n f, g)
+  visit-good {n} (best-plan h ok solved) f g = (fits-after size n f, (f, solved))
   visit-good {n} (open-node h ok unsolved) f g = (fits-deeper n ok unsolved f, g)
 
   walk-good : {v : ℕ} {p p′ : Place} → Walked k q v p p′ → Fits size (p .next) → Good q size (p .best) → Fits size (p′ .next) × Good q size (p′ .best)
@@ -144,62 +184,25 @@ module _ {W : Type 0} (k : Kind W) (q : Question W) (size : ℕ) (full : (n : No
   pub place-good : {v : ℕ} {p : Place} → Walked k q v begun p → Fits size (p .next) × Good q size (p .best)
   place-good w = walk-good w (omega arith) tt
 
-  -- ---- how many visits are left
-
-  -- the nodes from one on which d grants are still to decide, down
-  below : ℕ → ℕ
-  below zero = 1
-  below (suc d) = suc (below d + below d)
-
-  -- the nodes that are visited after all below n
-  later : ℕ → Node → ℕ
-  later d [] = 0
-  later d (keep ∷ n) = below d + later (suc d) n
-  later d (revoke ∷ n) = later (suc d) n
-
-  -- at most m visits are left
-  abbrev Left : Option Node → ℕ → Type 0
-  Left None m = Unit {0}
-  Left (Some n) m = (d : ℕ) × (d + length n ≡ size) × (below d + later d n ≤ m)
-
-  left-after : (n : Node) (d m : ℕ) → d + length n ≡ size → later d n ≤ m → Left (after n) m
-  unfolding later
-  left-after [] d m e h = tt
-  left-after (keep ∷ n) d m e h = (d, e, h)
-  left-after (revoke ∷ n) d m e h = left-after n (suc d) m (omega arith) h
-
-  below-some : (d : ℕ) → 0 < below d
-  unfolding below
-  below-some zero = omega arith
-  below-some (suc d) = omega arith
-
-  left-deeper : (n : Node) (d m : ℕ) → (q .Hopeless n → ⊥) → (q .Solved n → ⊥) → d + length n ≡ size → below d + later d n ≤ suc m → Left (Some (keep ∷ n)) m
+  left-deeper : (n : Node) (d m : ℕ) → (q .Hopeless n → ⊥) → (q .Solved n → ⊥) → d + length n ≡ size → below d + later d n ≤ suc m → Left size (Some (keep ∷ n)) m
   unfolding below later
   left-deeper n zero m h u e l = absurd (u (full n (omega arith) h))
   left-deeper n (suc d) m h u e l = (d, omega arith, omega arith)
 
-  visit-left : {n : Node} {b : Option Node} {t : Outcome} {p : Place} (m : ℕ) → Visit k q n b t p → Left (Some n) (suc m) → Left (p .next) m
-  visit-left {n} m (no-less h) l = let s = below-some (l .0) in left-after n (l .0) m (l .1) (omega arith)
-  visit-left {n} m (hopeless-node h bad) l = let s = below-some (l .0) in left-after n (l .0) m (l .1) (omega arith)
-  visit-left {n} m (best-plan h ok solved) l = let s = below-some (l .0) in left-after n (l .0) m (l .1) (omega arith)
+  visit-left : {n : Node} {b : Option Node} {t : Outcome} {p : Place} (m : ℕ) → Visit k q n b t p → Left size (Some n) (suc m) → Left size (p .next) m
+  visit-left {n} m (no-less h) l = left-closed size n m l
+  visit-left {n} m (hopeless-node h bad) l = left-closed size n m l
+  visit-left {n} m (best-plan h ok solved) l = left-closed size n m l
   visit-left {n} m (open-node h ok unsolved) l = left-deeper n (l .0) m ok unsolved (l .1) (l .2)
 
-  walk-few : {v : ℕ} {p p′ : Place} (m : ℕ) → Walked k q v p p′ → Left (p .next) m → v ≤ m
+  walk-few : {v : ℕ} {p p′ : Place} (m : ℕ) → Walked k q v p p′ → Left size (p .next) m → v ≤ m
   walk-few m stay l = omega arith
   walk-few zero (visit h w) l = let s = below-some (l .0) in absurd (omega arith)
   walk-few (suc m) (visit h w) l = let on = walk-few m w (visit-left m h l) in omega arith
 
-  below-power : (d : ℕ) → below d + 1 ≡ 2 ^ (d + 1)
-  unfolding below
-  below-power zero = refl
-  below-power (suc d) =
-      let e = below-power d in
-      let p : 2 ^ (suc d + 1) ≡ 2 ^ (d + 1) * 2 = ap (λ i. 2 ^ i) (omega arith) ∙ pow-suc 2 (d + 1) in
-      omega arith
-
   pub few-visits : {v : ℕ} {p : Place} → Walked k q v begun p → v ≤ 2 ^ (size + 1) - 1
   unfolding later
-  few-visits w = let e = below-power (size) in walk-few (2 ^ (size + 1) - 1) w (size, omega arith, omega arith)
+  few-visits w = let e = below-power size in walk-few (2 ^ (size + 1) - 1) w (size, omega arith, omega arith)
 
 -- ---- the search's condition
 
