@@ -1,4 +1,6 @@
 // The words of the subject: refusals, rights, rows, shapes and weights.
+#![tactic(auto)]
+
 mod amounts;
 mod decimal;
 pub mod peak;
