@@ -1,4 +1,6 @@
 // The grant file: checking its bytes, and filling rows from it.
+#![tactic(auto)]
+
 mod bodies;
 pub mod entries;
 pub mod fault;

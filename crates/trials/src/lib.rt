@@ -1,5 +1,6 @@
 // Trials of the subject by examples, and a weight kind of a crate's own.
 #[cfg(test)]
+#![tactic(auto)]
 mod files;
 pub mod steps;
 #[cfg(test)]

@@ -6,7 +6,7 @@ use Rattle.flow.proofs.OrderLaws.{Within, listed_none, listed_more, listed_stuck
 use Rattle.flow.proofs.order.listing.Goals as goal
 
 pub loop-k-init : goal.loop-k-init
-loop-k-init g c r within f = listed_none r c.devices-devices.result _ c.first-left.result refl c.first-left.type-inv c.first-left.ensures.count c.first-left.ensures.members
+loop-k-init g c r within f = listed_none r c.devices-devices.result _ c.first-left.result refl c.first-left.type_inv c.first-left.ensures.count c.first-left.ensures.members
 
 pub returns-in-None : goal.returns-in-None
 returns-in-None g c =
@@ -25,7 +25,7 @@ loop-k-preserved g c r within f =
     let n = c.devices-devices.result in
     let le : n ≤ 64 = omega arith in
     listed_more r n c.loop-k.k c.loop-k.list c.loop-k.left c.in-Some.next c.follower-words-words.result c.without-left.result le c.loop-k-test.true
-    within f (c.loop-k.invariant r within f) next c.without-left.type-inv c.without-left.ensures.members (c.without-left.ensures.count next.1)
+    within f (c.loop-k.invariant r within f) next c.without-left.type_inv c.without-left.ensures.members (c.without-left.ensures.count next.1)
 
 pub returns : goal.returns
 returns g c =

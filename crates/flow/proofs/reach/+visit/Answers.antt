@@ -10,7 +10,7 @@ visit-seen-requires t c =
     let fresh = not_member c.loop-rest.seen c.lowest-next.result (sym c.if-not-member.ensures.value) in
     let more = c.with.ensures.count fresh in
     let grown = c.loop-rest.invariant.0.grows in
-    let few = ones-le 64 c.with.result c.with.type-inv in
+    let few = ones-le 64 c.with.result c.with.type_inv in
     let m = c.decreases in
     (omega arith, c.lowest-next.ensures.bound)
 
@@ -21,7 +21,7 @@ loop-rest-preserved-then-not-member t c =
     let next = c.lowest-next.result in
     let fresh = not_member seen next (sym c.if-not-member.ensures.value) in
     let dealt = dealt_now w seen next c.with.result c.visit-seen.result fresh c.with.ensures.members (c.with.ensures.count fresh) c.visit-seen.ensures.value in
-    (going_more w c.args.entered c.args.device seen c.loop-rest.rest next c.visit-seen.result c.without-rest.result c.loop-rest.invariant.0 c.lowest-next.ensures.item c.without-rest.ensures.members dealt, c.visit-seen.type-inv, c.without-rest.type-inv)
+    (going_more w c.args.entered c.args.device seen c.loop-rest.rest next c.visit-seen.result c.without-rest.result c.loop-rest.invariant.0 c.lowest-next.ensures.item c.without-rest.ensures.members dealt, c.visit-seen.type_inv, c.without-rest.type_inv)
 
 pub loop-rest-preserved : goal.loop-rest-preserved
 loop-rest-preserved t c =
@@ -29,7 +29,7 @@ loop-rest-preserved t c =
     let seen = c.loop-rest.seen in
     let next = c.lowest-next.result in
     let dealt = dealt_before w seen next (eqb-true (bit seen next) 1 (sym c.if-not-member.ensures.value)) in
-    (going_more w c.args.entered c.args.device seen c.loop-rest.rest next seen c.without-rest.result c.loop-rest.invariant.0 c.lowest-next.ensures.item c.without-rest.ensures.members dealt, c.loop-rest.invariant.1, c.without-rest.type-inv)
+    (going_more w c.args.entered c.args.device seen c.loop-rest.rest next seen c.without-rest.result c.loop-rest.invariant.0 c.lowest-next.ensures.item c.without-rest.ensures.members dealt, c.loop-rest.invariant.1, c.without-rest.type_inv)
 
 pub returns : goal.returns
 returns t c = record {

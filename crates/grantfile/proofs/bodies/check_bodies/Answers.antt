@@ -53,7 +53,7 @@ returns-in-err-check-body g c =
     let t = here g (goal.at.returns-in-err-check-body g c).After-entry-start in
     record {
       cases =
-          rw (handed_on c.from-residual.result _ c.from-residual.ensures.1)
+          rw (handed_on c.from_residual.result _ c.from_residual.ensures.1)
           (c.loop.invariant.1
           ∙ joined_step tests d c.args.devices c.loop-test.true
           ∙ first_stop (tests d) (flat_map tests (range_with_len (d + 1) (c.args.devices - (d + 1)))) _ (tests_of_body g.W.Weight.meaning file d _ _ _ t ∙ c.in-err-check-body.ensures.cases));

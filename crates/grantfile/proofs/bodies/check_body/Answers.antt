@@ -19,7 +19,7 @@ returns-in-err-grant g c =
     let j = c.loop-j.j in
     record {
       cases =
-          rw (handed_on c.from-residual.result _ c.from-residual.ensures.1)
+          rw (handed_on c.from_residual.result _ c.from_residual.ensures.1)
           (c.loop-j.invariant
           ∙ joined_step tests j c.args.count c.loop-j-test.true
           ∙ first_stop (tests j) (flat_map tests (range_with_len (j + 1) (c.args.count - (j + 1)))) _ c.in-err-grant.ensures.cases);

@@ -8,7 +8,7 @@ pub returns-in-err-end : goal.returns-in-err-end
 returns-in-err-end c =
     record {
       cases =
-          rw (handed_on c.from-residual.result _ c.from-residual.ensures.1)
+          rw (handed_on c.from_residual.result _ c.from_residual.ensures.1)
           (entries_stop c.args.file.now _ (omega arith) c.in-err-end.ensures.cases);
     }
 

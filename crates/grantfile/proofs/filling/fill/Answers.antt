@@ -75,11 +75,11 @@ fill-device-requires g c =
       passed = sym (tests_of_body g.W.Weight.meaning file d _ _ _ t) ∙ joined_passed tests (devices_of file) d t.inside c.requires.bodies;
     }
 
-pub offset-bounds-rows-at : goal.offset-bounds-rows-at
-offset-bounds-rows-at g c =
-    let r = room g (goal.at.offset-bounds-rows-at g c).After-entry-start in
+pub offset_bounds-rows-at : goal.offset_bounds-rows-at
+offset_bounds-rows-at g c =
+    let r = room g (goal.at.offset_bounds-rows-at g c).After-entry-start in
     let w : c.loop-d.d * c.points-points.result < length c.args.rows.now = omega arith in
     search (rules, scaled_fits≤)
 
-pub slice-bounds-fill-device-end : goal.slice-bounds-fill-device-end
-slice-bounds-fill-device-end g c = room g (goal.at.slice-bounds-fill-device-end g c).After-entry-start
+pub slice_bounds-fill-device-end : goal.slice_bounds-fill-device-end
+slice_bounds-fill-device-end g c = room g (goal.at.slice_bounds-fill-device-end g c).After-entry-start

@@ -13,7 +13,7 @@ returns-in-err-check-contents g c =
     let w : rows_of c.in-ok-shape.shape ≤ length c.args.rows.now = omega arith in
     record {
       cases =
-          rw (handed_on c.from-residual-in-err-check-contents.result _ c.from-residual-in-err-check-contents.ensures.1) (
+          rw (handed_on c.from_residual-in-err-check-contents.result _ c.from_residual-in-err-check-contents.ensures.1) (
             past_rows k _ c.kind.result file c.in-ok-shape.shape c.kind.ensures.value c.in-ok-shape.ensures.cases w
                 ∙ first_stop (contents_tests file) (bodies_tests k file) _ c.in-err-check-contents.ensures.cases,
             refl,
@@ -27,7 +27,7 @@ returns-in-err-check-bodies g c =
     let w : rows_of c.in-ok-shape.shape ≤ length c.args.rows.now = omega arith in
     record {
       cases =
-          rw (handed_on c.from-residual-in-err-check-bodies.result _ c.from-residual-in-err-check-bodies.ensures.1) (
+          rw (handed_on c.from_residual-in-err-check-bodies.result _ c.from_residual-in-err-check-bodies.ensures.1) (
             past_contents k _ c.kind.result file c.in-ok-shape.shape c.kind.ensures.value c.in-ok-shape.ensures.cases w c.in-ok-check-contents.ensures.cases
                 ∙ c.in-err-check-bodies.ensures.cases,
             refl,
