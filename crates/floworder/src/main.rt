@@ -1,4 +1,6 @@
 // Prints the device order of the grant file on standard input, or why there is none.
+#![tactic(auto)]
+
 use report::flow_order::{MOST_BYTES, flow_order};
 use std::io;
 use std::io::Read;

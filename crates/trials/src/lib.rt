@@ -1,6 +1,7 @@
 // Trials of the subject by examples, and a weight kind of a crate's own.
-#[cfg(test)]
 #![tactic(auto)]
+
+#[cfg(test)]
 mod files;
 pub mod steps;
 #[cfg(test)]

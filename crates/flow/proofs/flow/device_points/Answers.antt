@@ -15,8 +15,8 @@ loop-p-preserved g c =
     let i = c.args.first + c.loop-p.p in
     let h : i < length rows = omega arith in
     let r = right_in_row rows i c.index-rows-first.result h in (
-      c.with-if-reads.ensures.gathers (λ p. can_read (right_at rows (c.args.first + p))) c.loop-p.invariant.0 (c.can-read.ensures.value ∙ ap can_read (sym r)),
-      c.with-if-writes.ensures.gathers (λ p. can_write (right_at rows (c.args.first + p))) c.loop-p.invariant.1 (c.can-write.ensures.value ∙ ap can_write (sym r)),
+      c.with_if-reads.ensures.gathers (λ p. can_read (right_at rows (c.args.first + p))) c.loop-p.invariant.0 (c.can_read.ensures.value ∙ ap can_read (sym r)),
+      c.with_if-writes.ensures.gathers (λ p. can_write (right_at rows (c.args.first + p))) c.loop-p.invariant.1 (c.can_write.ensures.value ∙ ap can_write (sym r)),
     )
 
 pub returns : goal.returns

@@ -14,8 +14,8 @@ returns-in-None g c =
     let rows = c.args.rows.now in
     let n = c.devices-devices.result in
     let r = rights s rows in
-    let words = c.follower-words-words.result in
-    let f = c.follower-words-words.ensures.value in
+    let words = c.follower_words-words.result in
+    let f = c.follower_words-words.ensures.value in
     let within : Within r n = subst (Within r) (sym c.devices-devices.ensures.value) (source_within s rows) in
     record { value = listed_stuck r n c.loop-k.k c.loop-k.list c.loop-k.left words c.loop-k-test.true f (c.loop-k.invariant r within f) c.in-None.ensures.value }
 
@@ -24,7 +24,7 @@ loop-k-preserved g c r within f =
     let next = c.in-Some.ensures.value in
     let n = c.devices-devices.result in
     let le : n ≤ 64 = omega arith in
-    listed_more r n c.loop-k.k c.loop-k.list c.loop-k.left c.in-Some.next c.follower-words-words.result c.without-left.result le c.loop-k-test.true
+    listed_more r n c.loop-k.k c.loop-k.list c.loop-k.left c.in-Some.next c.follower_words-words.result c.without-left.result le c.loop-k-test.true
     within f (c.loop-k.invariant r within f) next c.without-left.type_inv c.without-left.ensures.members (c.without-left.ensures.count next.1)
 
 pub returns : goal.returns
@@ -33,7 +33,7 @@ returns g c =
     let rows = c.args.rows.now in
     let n = c.devices-devices.result in
     let r = rights s rows in
-    let f = c.follower-words-words.ensures.value in
+    let f = c.follower_words-words.ensures.value in
     let within : Within r n = subst (Within r) (sym c.devices-devices.ensures.value) (source_within s rows) in
     let list = c.loop-k.list in
     record {

@@ -16,7 +16,7 @@ returns-in-Some g c =
     let long = o.long in
     let taken = length-take s.devices list in
     let h : n ≤ length list = omega arith in
-    let w = copied n (n - 0) list c.args.memory.now c.copy-from-slice.new.self (omega arith) c.copy-from-slice.ensures.after h in
+    let w = copied n (n - 0) list c.args.memory.now c.copy_from_slice.new.self (omega arith) c.copy_from_slice.ensures.after h in
     let same : FlowOrder r n (take n list) = subst (λ i. FlowOrder r i (take i list)) (sym c.devices-devices.ensures.value) o in
     record {
       cases = (

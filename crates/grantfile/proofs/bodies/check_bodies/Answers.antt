@@ -32,12 +32,12 @@ loop-preserved g c =
       t.rest_is,
       c.loop.invariant.1
           ∙ joined_step tests d c.args.devices c.loop-test.true
-          ∙ first_past (tests d) (flat_map tests (range_with_len (d + 1) (c.args.devices - (d + 1)))) (tests_of_body g.W.Weight.meaning file d _ _ _ t ∙ c.in-ok-check-body.ensures.cases),
+          ∙ first_past (tests d) (flat_map tests (range_with_len (d + 1) (c.args.devices - (d + 1)))) (tests_of_body g.W.Weight.meaning file d _ _ _ t ∙ c.in_ok-check_body.ensures.cases),
     )
 
-pub check-body-requires : goal.check-body-requires
-check-body-requires g c =
-    record { points = c.requires.points; within = (here g (goal.at.check-body-requires g c).After-entry-start).within }
+pub check_body-requires : goal.check_body-requires
+check_body-requires g c =
+    record { points = c.requires.points; within = (here g (goal.at.check_body-requires g c).After-entry-start).within }
 
 pub returns : goal.returns
 returns g c =
@@ -45,16 +45,16 @@ returns g c =
       cases = c.loop.invariant.1 ∙ joined_end (body_tests g.W.Weight.meaning c.args.file.now) c.loop.counter c.args.devices c.loop-test.false;
     }
 
-pub returns-in-err-check-body : goal.returns-in-err-check-body
-returns-in-err-check-body g c =
+pub returns-in_err-check_body : goal.returns-in_err-check_body
+returns-in_err-check_body g c =
     let file = c.args.file.now in
     let tests = body_tests g.W.Weight.meaning file in
     let d = c.loop.counter in
-    let t = here g (goal.at.returns-in-err-check-body g c).After-entry-start in
+    let t = here g (goal.at.returns-in_err-check_body g c).After-entry-start in
     record {
       cases =
           rw (handed_on c.from_residual.result _ c.from_residual.ensures.1)
           (c.loop.invariant.1
           ∙ joined_step tests d c.args.devices c.loop-test.true
-          ∙ first_stop (tests d) (flat_map tests (range_with_len (d + 1) (c.args.devices - (d + 1)))) _ (tests_of_body g.W.Weight.meaning file d _ _ _ t ∙ c.in-err-check-body.ensures.cases));
+          ∙ first_stop (tests d) (flat_map tests (range_with_len (d + 1) (c.args.devices - (d + 1)))) _ (tests_of_body g.W.Weight.meaning file d _ _ _ t ∙ c.in_err-check_body.ensures.cases));
     }

@@ -11,10 +11,10 @@ loop-j-preserved g c =
     let j = c.loop-j.j in
     c.loop-j.invariant
     ∙ joined_step tests j c.args.count c.loop-j-test.true
-    ∙ first_past (tests j) (flat_map tests (range_with_len (j + 1) (c.args.count - (j + 1)))) c.in-ok-grant.ensures.cases.0
+    ∙ first_past (tests j) (flat_map tests (range_with_len (j + 1) (c.args.count - (j + 1)))) c.in_ok-grant.ensures.cases.0
 
-pub returns-in-err-grant : goal.returns-in-err-grant
-returns-in-err-grant g c =
+pub returns-in_err-grant : goal.returns-in_err-grant
+returns-in_err-grant g c =
     let tests = grant_tests g.W.Weight.meaning c.args.file.now c.args.start in
     let j = c.loop-j.j in
     record {
@@ -22,5 +22,5 @@ returns-in-err-grant g c =
           rw (handed_on c.from_residual.result _ c.from_residual.ensures.1)
           (c.loop-j.invariant
           ∙ joined_step tests j c.args.count c.loop-j-test.true
-          ∙ first_stop (tests j) (flat_map tests (range_with_len (j + 1) (c.args.count - (j + 1)))) _ c.in-err-grant.ensures.cases);
+          ∙ first_stop (tests j) (flat_map tests (range_with_len (j + 1) (c.args.count - (j + 1)))) _ c.in_err-grant.ensures.cases);
     }

@@ -39,10 +39,10 @@ loop-d-preserved g c =
     let r = room g (goal.at.loop-d-preserved g c).After-entry-start in
     let p : points ≡ points_of file = c.points-points.ensures.value ∙ c.requires.named.1 in
     let n : d * points + points - d * points ≡ points = omega arith in
-    let l : length c.fill-device.new.rows ≡ points = c.fill-device.auto.rows ∙ length-between c.loop-d.rows (d * points) (d * points + points) r ∙ n in (
+    let l : length c.fill_device.new.rows ≡ points = c.fill_device.auto.rows ∙ length-between c.loop-d.rows (d * points) (d * points + points) r ∙ n in (
       t.rest_is,
-      more_beyond d points _ c.loop-d.rows c.fill-device.new.rows c.args.rows.now c.loop-d.invariant.1 n l (omega arith),
-      more_to k file d _ _ (d * points) _ c.loop-d.rows c.fill-device.new.rows c.loop-d.invariant.2 c.fill-device.ensures.after
+      more_beyond d points _ c.loop-d.rows c.fill_device.new.rows c.args.rows.now c.loop-d.invariant.1 n l (omega arith),
+      more_to k file d _ _ (d * points) _ c.loop-d.rows c.fill_device.new.rows c.loop-d.invariant.2 c.fill_device.ensures.after
           t.start_is t.count_is (ap (λ q. d * q) p) (l ∙ p) (omega arith)
           (λ e j a b. points_inside k file (body_at file e) (count_of file e) j (joined_passed (body_tests k file) (devices_of file) e (omega (arith, t.inside)) c.requires.bodies) b),
     )
@@ -60,13 +60,13 @@ returns g c =
       beyond = subst P e c.loop-d.invariant.1;
     }
 
-pub fill-device-requires : goal.fill-device-requires
-fill-device-requires g c =
+pub fill_device-requires : goal.fill_device-requires
+fill_device-requires g c =
     let file = c.args.file.now in
     let d = c.loop-d.d in
     let points = c.points-points.result in
-    let t = here g (goal.at.fill-device-requires g c).After-entry-start in
-    let r = room g (goal.at.fill-device-requires g c).After-entry-start in
+    let t = here g (goal.at.fill_device-requires g c).After-entry-start in
+    let r = room g (goal.at.fill_device-requires g c).After-entry-start in
     let n = length-between c.loop-d.rows (d * points) (d * points + points) r in
     let tests = body_tests g.W.Weight.meaning file in
     record {
@@ -81,5 +81,5 @@ offset_bounds-rows-at g c =
     let w : c.loop-d.d * c.points-points.result < length c.args.rows.now = omega arith in
     search (rules, scaled_fits≤)
 
-pub slice_bounds-fill-device-end : goal.slice_bounds-fill-device-end
-slice_bounds-fill-device-end g c = room g (goal.at.slice_bounds-fill-device-end g c).After-entry-start
+pub slice_bounds-fill_device-end : goal.slice_bounds-fill_device-end
+slice_bounds-fill_device-end g c = room g (goal.at.slice_bounds-fill_device-end g c).After-entry-start

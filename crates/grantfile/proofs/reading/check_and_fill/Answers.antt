@@ -6,30 +6,30 @@ use Rattle.grantfile.proofs.Checks.{past_rows, past_contents}
 use Rattle.grantfile.proofs.Firsts.{handed_on, first_stop}
 use Rattle.grantfile.proofs.reading.check_and_fill.Goals as goal
 
-pub returns-in-err-check-contents : goal.returns-in-err-check-contents
-returns-in-err-check-contents g c =
+pub returns-in_err-check_contents : goal.returns-in_err-check_contents
+returns-in_err-check_contents g c =
     let k = g.W.Weight.meaning in
     let file = c.args.file.now in
-    let w : rows_of c.in-ok-shape.shape ≤ length c.args.rows.now = omega arith in
+    let w : rows_of c.in_ok-shape.shape ≤ length c.args.rows.now = omega arith in
     record {
       cases =
-          rw (handed_on c.from_residual-in-err-check-contents.result _ c.from_residual-in-err-check-contents.ensures.1) (
-            past_rows k _ c.kind.result file c.in-ok-shape.shape c.kind.ensures.value c.in-ok-shape.ensures.cases w
-                ∙ first_stop (contents_tests file) (bodies_tests k file) _ c.in-err-check-contents.ensures.cases,
+          rw (handed_on c.from_residual-in_err-check_contents.result _ c.from_residual-in_err-check_contents.ensures.1) (
+            past_rows k _ c.kind.result file c.in_ok-shape.shape c.kind.ensures.value c.in_ok-shape.ensures.cases w
+                ∙ first_stop (contents_tests file) (bodies_tests k file) _ c.in_err-check_contents.ensures.cases,
             refl,
           );
     }
 
-pub returns-in-err-check-bodies : goal.returns-in-err-check-bodies
-returns-in-err-check-bodies g c =
+pub returns-in_err-check_bodies : goal.returns-in_err-check_bodies
+returns-in_err-check_bodies g c =
     let k = g.W.Weight.meaning in
     let file = c.args.file.now in
-    let w : rows_of c.in-ok-shape.shape ≤ length c.args.rows.now = omega arith in
+    let w : rows_of c.in_ok-shape.shape ≤ length c.args.rows.now = omega arith in
     record {
       cases =
-          rw (handed_on c.from_residual-in-err-check-bodies.result _ c.from_residual-in-err-check-bodies.ensures.1) (
-            past_contents k _ c.kind.result file c.in-ok-shape.shape c.kind.ensures.value c.in-ok-shape.ensures.cases w c.in-ok-check-contents.ensures.cases
-                ∙ c.in-err-check-bodies.ensures.cases,
+          rw (handed_on c.from_residual-in_err-check_bodies.result _ c.from_residual-in_err-check_bodies.ensures.1) (
+            past_contents k _ c.kind.result file c.in_ok-shape.shape c.kind.ensures.value c.in_ok-shape.ensures.cases w c.in_ok-check_contents.ensures.cases
+                ∙ c.in_err-check_bodies.ensures.cases,
             refl,
           );
     }
@@ -38,12 +38,12 @@ pub returns : goal.returns
 returns g c =
     let k = g.W.Weight.meaning in
     let file = c.args.file.now in
-    let w : rows_of c.in-ok-shape.shape ≤ length c.args.rows.now = omega arith in
-    let h = c.in-ok-shape.ensures.cases in
+    let w : rows_of c.in_ok-shape.shape ≤ length c.args.rows.now = omega arith in
+    let h = c.in_ok-shape.ensures.cases in
     record {
       cases = (
-        past_contents k _ c.kind.result file c.in-ok-shape.shape c.kind.ensures.value h w c.in-ok-check-contents.ensures.cases
-            ∙ c.in-ok-check-bodies.ensures.cases,
+        past_contents k _ c.kind.result file c.in_ok-shape.shape c.kind.ensures.value h w c.in_ok-check_contents.ensures.cases
+            ∙ c.in_ok-check_bodies.ensures.cases,
         h.1,
         c.fill.ensures.table,
         c.fill.ensures.beyond,

@@ -14,10 +14,10 @@ returns-in-Ok g c =
     let file = c.args.file.now in
     let s = c.in-Ok.shape in
     let h = c.in-Ok.ensures.cases in
-    let rows = c.as-slice.result.now in
-    let lent : length c.as-mut-slice.result.now ≡ 4096 = c.as-mut-slice.ensures.len ∙ c.in-ok-rows.ensures.len in
+    let rows = c.as_slice.result.now in
+    let lent : length c.as_mut_slice.result.now ≡ 4096 = c.as_mut_slice.ensures.len ∙ c.in_ok-rows.ensures.len in
     let passed = subst (λ n. first (all_tests k n file) ≡ None) lent h.0 in
-    let same : rows ≡ c.read.new.rows = c.as-slice.ensures.value ∙ with_items_is c.in-ok-rows.rows c.read.new.rows (c.read.auto.rows ∙ c.as-mut-slice.ensures.len) in
+    let same : rows ≡ c.read.new.rows = c.as_slice.ensures.value ∙ with_items_is c.in_ok-rows.rows c.read.new.rows (c.read.auto.rows ∙ c.as_mut_slice.ensures.len) in
     record {
       made =
           IfOk-weaker c.ordered.result (λ t. Ordered (rights s rows) s.devices (string_bytes t)) (λ t. Answered k file (string_bytes t))
@@ -29,10 +29,10 @@ returns g c =
     let k = g.W.Weight.meaning in
     let file = c.args.file.now in
     let f = c.in-Err.fault in
-    let lent : length c.as-mut-slice.result.now ≡ 4096 = c.as-mut-slice.ensures.len ∙ c.in-ok-rows.ensures.len in
+    let lent : length c.as_mut_slice.result.now ≡ 4096 = c.as_mut_slice.ensures.len ∙ c.in_ok-rows.ensures.len in
     let failed = subst (λ n. first (all_tests k n file) ≡ Some f) lent c.in-Err.ensures.cases.0 in
     record {
       made =
-          IfOk-weaker c.refused-line.result (λ t. string_bytes t ≡ line_of_refusal f.why f.place) (λ t. Answered k file (string_bytes t))
-          (λ t e. refused f failed e) c.refused-line.ensures.made;
+          IfOk-weaker c.refused_line.result (λ t. string_bytes t ≡ line_of_refusal f.why f.place) (λ t. Answered k file (string_bytes t))
+          (λ t e. refused f failed e) c.refused_line.ensures.made;
     }

@@ -15,6 +15,6 @@ returns-in-Ok g c =
     let all : n - 0 ≡ n = omega arith in
     record {
       made =
-          IfOk-weaker c.order-line.result (λ t. string_bytes t ≡ line_of_order (take (n - 0) list)) (λ t. Ordered r c.args.shape.devices (string_bytes t))
-          (λ t e. listed (take n list) h.3 (subst (λ m. FlowOrder r m (take n list)) h.1 h.4) (e ∙ ap (λ m. line_of_order (take m list)) all)) c.order-line.ensures.made;
+          IfOk-weaker c.order_line.result (λ t. string_bytes t ≡ line_of_order (take (n - 0) list)) (λ t. Ordered r c.args.shape.devices (string_bytes t))
+          (λ t e. listed (take n list) h.3 (subst (λ m. FlowOrder r m (take n list)) h.1 h.4) (e ∙ ap (λ m. line_of_order (take m list)) all)) c.order_line.ensures.made;
     }

@@ -14,8 +14,8 @@ loop-d-preserved c =
     let devices = c.args.devices.now in
     let i = c.loop-d.d-index in
     let d = get_or devices i 0 in
-    let p = pushed c.as-str.result.now c.loop-d.invariant c.in-ok-push-str.was c.push-str.ensures.bytes in
-    let e : c.as-str.result.now ≡ field d = c.as-str.ensures.value ∙ c.in-ok-field.ensures.ok in
+    let p = pushed c.as_str.result.now c.loop-d.invariant c.in_ok-push_str.was c.push_str.ensures.bytes in
+    let e : c.as_str.result.now ≡ field d = c.as_str.ensures.value ∙ c.in_ok-field.ensures.ok in
     p ∙ ap (λ t. (codes "order" ++ flat_map field (take i devices)) ++ t) e ∙ flat_map_more field (codes "order") (take i devices) d
     ∙ ap (λ xs. codes "order" ++ flat_map field xs) (sym (take_more devices i 0 c.loop-d-test.true))
 
@@ -24,7 +24,7 @@ unfolding field
 returns c =
     let devices = c.args.devices.now in
     let i = c.loop-d.d-index in
-    let p = pushed _ c.loop-d.invariant c.in-ok-push.was c.push.ensures.bytes in
+    let p = pushed _ c.loop-d.invariant c.in_ok-push.was c.push.ensures.bytes in
     let e = c.push.ensures.ascii (omega arith) in
     record {
       made =

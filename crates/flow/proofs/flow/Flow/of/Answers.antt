@@ -6,8 +6,8 @@ use Rattle.flow.proofs.flow.Flow.of.Goals as goal
 pub loop-d-init : goal.loop-d-init
 loop-d-init g c = (filled_none _, filled_none _)
 
-pub device-points-reads-requires : goal.device-points-reads-requires
-device-points-reads-requires g c =
+pub device_points-reads-requires : goal.device_points-reads-requires
+device_points-reads-requires g c =
     let s = c.args.shape in
     let e = ap₂ ◌*◌ c.devices-d-end.ensures.value c.points-points.ensures.value in
     (omega arith, device_fits c.loop-d.d c.devices-d-end.result c.points-points.result (length c.args.rows.now) c.loop-d-test.true (omega arith))
@@ -17,8 +17,8 @@ loop-d-preserved g c =
     let F = points_by can_read c.args.rows.now c.points-points.result in
     let G = points_by can_write c.args.rows.now c.points-points.result in
     let h : c.loop-d.d < 64 = omega arith in (
-      filled_more F c.loop-d.d c.loop-d.flow.reads _ h c.device-points-reads.ensures.reads c.loop-d.invariant.0,
-      filled_more G c.loop-d.d c.loop-d.flow.writes _ h c.device-points-reads.ensures.writes c.loop-d.invariant.1,
+      filled_more F c.loop-d.d c.loop-d.flow.reads _ h c.device_points-reads.ensures.reads c.loop-d.invariant.0,
+      filled_more G c.loop-d.d c.loop-d.flow.writes _ h c.device_points-reads.ensures.writes c.loop-d.invariant.1,
     )
 
 pub returns : goal.returns
