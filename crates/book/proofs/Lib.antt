@@ -1,1 +1,2 @@
 -- The lemmas that the functions' proofs share.
+mod Slots

@@ -165,7 +165,7 @@ fn bodies_are_parts_of_the_file(rt: HostRuntime) -> Result<(), Fail> {
         return Err(Fail::new("the body is refused"));
     };
     assert_eq!(rt; body.place, 22);
-    assert_eq!(rt; body.bytes, b"\x00a\x00\x00\x00\x04\x01r\x00\x00\x00\x09");
+    assert_eq!(rt; body.bytes, b"\x00a\x00\x00\x00\x04\x01r\x00\x00\x00\x09".as_slice());
     let outside = Fault {
         why: Refusal::OutsideTable,
         place: 0,
@@ -185,7 +185,7 @@ fn an_entry_and_what_follows(rt: HostRuntime) {
     let (start, count, rest) = entry(b"\x01\x02\x03\x04");
     assert_eq!(rt; start, 258);
     assert_eq!(rt; count, 3);
-    assert_eq!(rt; rest, b"\x04");
+    assert_eq!(rt; rest, b"\x04".as_slice());
     let (start, count, rest) = entry(b"\x01\x02");
     assert_eq!(rt; start, 0);
     assert_eq!(rt; count, 0);
