@@ -1,7 +1,6 @@
 -- A row that is read, and the slot that it shows.
-use Rattle.std.proofs.Common.{◌≡◌, ℕ, zero, suc, ◌<◌, cond, true, false, ◌⊎◌, List, [], ◌∷◌, length, get_or, refl, ap, ◌∙◌, inl, inr, None, le_of_suc-le-suc, not-suc-le-zero}
-use Rattle.mesh.specs.declared.right.Right.{Right}
-use Rattle.mesh.specs.declared.right.Right.TheVariants.{Empty, Read, Append, Both}
+use Rattle.std.proofs.Common.{◌≡◌, ℕ, zero, suc, ◌<◌, false, List, [], ◌∷◌, length, get_or, refl, None, le_of_suc-le-suc, not-suc-le-zero}
+use Rattle.mesh.specs.declared.right.Right.TheVariants.{Empty}
 use Rattle.mesh.specs.declared.row.Row.{Row}
 use Rattle.planner.specs.declared.calls.Written.TheVariants.{Fresh, Replaced}
 use Rattle.planner.specs.Ledger.{freshness, is_empty}

@@ -9,7 +9,7 @@
 --     Chain g a xs b   from a over the devices of xs to b, each a source of the next
 --     Ring g           two or more different devices, each a source of the next, and the last of the first
 --     OnRing g d p     the grant of d at p writes or reads at one step of a ring
-use Rattle.std.specs.Prelude.{◌≡◌, ℕ, ◌+◌, ◌≤◌, cond, ◌&&◌, T, ◌⊎◌, List, [], ◌∷◌, ◌++◌, map, length, nat_lt, slice_index_or}
+use Rattle.std.specs.Prelude.{◌≡◌, ℕ, ◌≤◌, cond, ◌&&◌, T, ◌⊎◌, List, [], ◌∷◌, ◌++◌, map, length, nat_lt, slice_index_or}
 use Rattle.mesh.specs.declared.right.Right.{Right}
 use Rattle.mesh.specs.declared.right.Right.TheVariants.{Empty}
 use Rattle.mesh.specs.declared.row.Row.{Row}

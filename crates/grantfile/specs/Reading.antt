@@ -6,7 +6,7 @@
 --     Shown file d r              the body of device d, as a part of the file
 --     Filled k s file rows        each grant of the file stands in its row, and every other row of the table is empty
 --     ReadInto k file m m' r      the whole file is checked, and then the rows filled, m before and m' after
-use Rattle.std.specs.Prelude.{◌≡◌, ℕ, ◌+◌, ◌*◌, ◌<◌, ◌≤◌, List, [], ◌++◌, length, take, drop, Some, None, Ok, Err, Result, ◌≢◌, slice_index_or}
+use Rattle.std.specs.Prelude.{◌≡◌, ℕ, ◌*◌, ◌<◌, ◌≤◌, List, [], ◌++◌, length, take, drop, Some, None, Ok, Err, Result, ◌≢◌, slice_index_or}
 use Rattle.mesh.specs.declared.refusal.Refusal.TheVariants.{OutsideTable}
 use Rattle.mesh.specs.declared.right.Right.{Right}
 use Rattle.mesh.specs.declared.row.Row.{Row}

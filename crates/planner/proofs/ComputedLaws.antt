@@ -13,7 +13,7 @@ use Rattle.planner.specs.declared.calls.Answer.TheVariants as says
 use Rattle.planner.specs.Grants.{Slot, right_in, without, only}
 use Rattle.planner.specs.Walk.{Node, Question, NoLess, Place, at, begun, Visit, no_less, hopeless_node, best_plan, open_node, Walked, stay, visit, Advanced}
 use Rattle.planner.specs.Search.{kept, revoked, ring_question}
-use Rattle.planner.specs.Ledger.{Ledger, book, searching, too_few, refusal, admitted, opened, asks, started, plan, Done, write, erase, read, start, advance, take, abandon, Told, misuse, refused, done, Run, none, then}
+use Rattle.planner.specs.Ledger.{Ledger, book, searching, too_few, refusal, admitted, opened, asks, started, Done, write, erase, read, start, advance, take, abandon, Told, misuse, refused, done, Run, none, then}
 use Rattle.planner.specs.FlowTests.{to_decide}
 use Rattle.planner.specs.Theorems.{WalksAgree, WalksEnd}
 use Rattle.planner.proofs.QuestionLaws.{few, next_fits, planned}

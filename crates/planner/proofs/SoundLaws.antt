@@ -11,7 +11,6 @@ use Rattle.mesh.specs.Table.{rows_of, row_of}
 use Rattle.planner.specs.declared.calls.Call.{Call}
 use Rattle.planner.specs.declared.calls.Lent.{Lent}
 use Rattle.planner.specs.declared.calls.Answer.{Answer}
-use Rattle.planner.specs.declared.calls.Answer.TheVariants as says
 use Rattle.planner.specs.Grants.{Slot, RowSet, right_in, beyond, without}
 use Rattle.planner.specs.Walk.{Node, Question, Place, at, begun, Walked, stay, visit}
 use Rattle.planner.specs.Search.{Decides, revoked}

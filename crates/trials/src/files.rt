@@ -165,7 +165,10 @@ fn bodies_are_parts_of_the_file(rt: HostRuntime) -> Result<(), Fail> {
         return Err(Fail::new("the body is refused"));
     };
     assert_eq!(rt; body.place, 22);
-    assert_eq!(rt; body.bytes, b"\x00a\x00\x00\x00\x04\x01r\x00\x00\x00\x09".as_slice());
+    assert_eq!(rt;
+        body.bytes,
+        b"\x00a\x00\x00\x00\x04\x01r\x00\x00\x00\x09".as_slice()
+    );
     let outside = Fault {
         why: Refusal::OutsideTable,
         place: 0,

@@ -1,5 +1,5 @@
 -- The answer is that of the slot that the row shows.
-use Rattle.std.proofs.Common.{rules, inl, inr, ap}
+use Rattle.std.proofs.Common.{inl, inr, ap}
 use Rattle.planner.specs.Ledger.{is_empty}
 use Rattle.book.proofs.Slots.{fresh_where_empty, replaced_where_not}
 use Rattle.book.proofs.book.put.Goals as goal

@@ -1,4 +1,4 @@
-use Rattle.std.proofs.Common.{◌≡◌, ◌-◌, ap, ◌∙◌, arith}
+use Rattle.std.proofs.Common.{◌≡◌, ap, ◌∙◌, arith}
 use Rattle.flow.specs.Sets.{bit}
 use Rattle.flow.proofs.SetLaws.{bit_lt, bit_none}
 use Rattle.flow.proofs.order.next_device.Goals as goal
