@@ -1,8 +1,8 @@
 -- The size of a table, and the rows in it.
 --     InRange n            a table may have n devices, or n points
 --     Shaped d p r         the answer r to a wish for a table of d devices and p points
---     rows_of s             how many rows the table has
---     row_of s d p          the row of device d and point p
+--     rows_of s            how many rows the table has
+--     row_of s d p         the row of device d and point p
 --     PlacedRow s d p r    the answer r to the question where that row is
 use Rattle.std.specs.Prelude.{◌≡◌, ℕ, ◌+◌, ◌*◌, ◌<◌, ◌≤◌, Ok, Err, Result}
 use Rattle.mesh.specs.declared.refusal.Refusal.{Refusal}
