@@ -1,12 +1,9 @@
 // The book: grants written, erased and read in the rows that are lent to each call.
 ghost use Rattle.std.specs.Prelude.{◌≡◌, ◌<◌, length, None, slice_index_or, slice_set};
 ghost use Rattle.mesh.specs.Rows.{empty_row, grant_row};
-ghost use Rattle.planner.specs.declared.calls.Call.TheVariants.{Write, Erase, Read};
 ghost use Rattle.planner.specs.Ledger.{freshness};
 ghost use Rattle.planner.specs.Rows.{slots_in};
-ghost use Rattle.book.specs.declared.state.State.TheVariants.{Free};
-ghost use Rattle.book.specs.Agrees.{Tells};
-ghost use Rattle.book.specs.BookCalls.{Clears, Erases, Reads, Writes, of_erase, of_read, of_write, read_in};
+ghost use Rattle.book.specs.BookCalls.{Clears, Erases, Reads, Writes, read_in};
 
 use mesh::refusal::Refusal;
 use mesh::right::Right;
