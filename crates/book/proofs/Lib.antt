@@ -1,2 +1,1 @@
--- The lemmas that the functions' proofs share.
-mod Slots
+-- No lemma of the crate's own.

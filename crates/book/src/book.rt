@@ -1,9 +1,9 @@
 // The book: grants written, erased and read in the rows that are lent to each call.
-ghost use Rattle.std.specs.Prelude.{◌≡◌, ◌<◌, length, None, slice_index_or, slice_set};
-ghost use Rattle.mesh.specs.Rows.{empty_row, grant_row};
+ghost use Rattle.std.specs.Prelude.{◌≡◌};
+ghost use Rattle.mesh.specs.Rows.{grant_row};
 ghost use Rattle.planner.specs.Ledger.{freshness};
-ghost use Rattle.planner.specs.Rows.{slots_in};
-ghost use Rattle.book.specs.BookCalls.{Clears, Erases, Reads, Writes, read_in};
+ghost use Rattle.planner.specs.Rows.{slot_in};
+ghost use Rattle.book.specs.BookCalls.{Clears, Erases, PlacedIn, Reads, Writes, read_in};
 
 use mesh::refusal::Refusal;
 use mesh::right::Right;
@@ -33,17 +33,52 @@ pub struct Reading<W> {
 }
 
 // Puts a grant into a row.
-fn put<W: Copy>(rows: &mut [Row<W>], at: usize, right: Right, weight: W) -> Written
-    requires { at < length rows.old }
-    ensures value { result ≡ freshness (slice_index_or (slots_in rows.old) at None) }
-    ensures after { rows.new ≡ slice_set rows.old at (grant_row right weight) }
+fn put<W: Copy>(row: &mut Row<W>, right: Right, weight: W) -> Written
+    ensures value { result ≡ freshness (slot_in row.old) }
+    ensures after { row.new ≡ grant_row right weight }
 {
-    let stood = rows[at].right;
-    rows[at] = Row::grant(right, weight);
+    let stood = row.right;
+    *row = Row::grant(right, weight);
     match stood {
         Right::Empty => Written::Fresh,
         Right::Read | Right::Append | Right::Both => Written::Replaced,
     }
+}
+
+// Makes a row empty in which a grant stands.
+fn clear<W: Weight>(row: &mut Row<W>) -> Result<(), Refusal>
+    ensures cases { Clears W.Weight.meaning row.old row.new result }
+{
+    if row.right == Right::Empty {
+        return Err(Refusal::NothingToErase);
+    }
+    *row = Row::empty();
+    Ok(())
+}
+
+// What a row shows.
+fn shown<W: Weight>(row: &Row<W>) -> Reading<W>
+    ensures value { result ≡ read_in W.Weight.meaning (slot_in row.now) }
+{
+    let weight = match row.right {
+        Right::Empty => W::zero(),
+        Right::Read | Right::Append | Right::Both => row.weight,
+    };
+    Reading {
+        right: row.right,
+        weight,
+    }
+}
+
+// Where the row of a device and a point lies among the rows lent; refused 4, then 8.
+fn place<W>(shape: Shape, rows: &[Row<W>], device: u8, point: u8) -> Result<usize, Refusal>
+    ensures cases { PlacedIn shape rows.now device point result }
+{
+    if rows.len() < shape.rows() {
+        return Err(Refusal::ShortMemory);
+    }
+    let at = shape.row(device, point)?;
+    Ok(at)
 }
 
 // Writes a grant into the row of a device and a point.
@@ -57,28 +92,12 @@ fn write_grant<W: Weight>(
 ) -> Result<Written, Refusal>
     ensures cases { Writes W.Weight.meaning shape device point right amount rows.old rows.new result }
 {
-    if rows.len() < shape.rows() {
-        return Err(Refusal::ShortMemory);
-    }
-    let at = shape.row(device, point)?;
-    if let Right::Empty = right {
+    let at = place(shape, rows, device, point)?;
+    if right == Right::Empty {
         return Err(Refusal::WrongRight);
     }
     let weight = W::make(amount)?;
-    Ok(put(rows, at, right, weight))
-}
-
-// Makes a row empty in which a grant stands.
-fn clear<W: Weight>(rows: &mut [Row<W>], at: usize) -> Result<(), Refusal>
-    requires { at < length rows.old }
-    ensures cases { Clears W.Weight.meaning at rows.old rows.new result }
-{
-    let stood = rows[at].right;
-    if let Right::Empty = stood {
-        return Err(Refusal::NothingToErase);
-    }
-    rows[at] = Row::empty();
-    Ok(())
+    Ok(put(&mut rows[at], right, weight))
 }
 
 // Erases the grant of a device at a point.
@@ -90,29 +109,8 @@ fn erase_grant<W: Weight>(
 ) -> Result<(), Refusal>
     ensures cases { Erases W.Weight.meaning shape device point rows.old rows.new result }
 {
-    if rows.len() < shape.rows() {
-        return Err(Refusal::ShortMemory);
-    }
-    let at = shape.row(device, point)?;
-    clear(rows, at)
-}
-
-// What a row shows.
-fn shown<W: Weight>(rows: &[Row<W>], at: usize) -> Reading<W>
-    requires { at < length rows.now }
-    ensures value { result ≡ read_in W.Weight.meaning (slice_index_or (slots_in rows.now) at None) }
-{
-    let right = rows[at].right;
-    match right {
-        Right::Empty => Reading {
-            right,
-            weight: W::zero(),
-        },
-        Right::Read | Right::Append | Right::Both => Reading {
-            right,
-            weight: rows[at].weight,
-        },
-    }
+    let at = place(shape, rows, device, point)?;
+    clear(&mut rows[at])
 }
 
 // What the row of a device and a point shows.
@@ -124,9 +122,6 @@ fn read_grant<W: Weight>(
 ) -> Result<Reading<W>, Refusal>
     ensures cases { Reads W.Weight.meaning shape device point rows.now result }
 {
-    if rows.len() < shape.rows() {
-        return Err(Refusal::ShortMemory);
-    }
-    let at = shape.row(device, point)?;
-    Ok(shown(rows, at))
+    let at = place(shape, rows, device, point)?;
+    Ok(shown(&rows[at]))
 }

@@ -53,13 +53,17 @@ pub(super) fn grant<W: Weight>(
     if !in_order(file, points, start, j) {
         return Err(Fault::of(Layer::Body, Refusal::OutsideTable, place));
     }
-    let Some(right) = Right::of_grant(file[place + 1]) else {
-        return Err(Fault::of(Layer::Body, Refusal::WrongRight, place + 1));
-    };
-    match W::make(long(file, place + 2)) {
-        Ok(weight) => Ok(Row::grant(right, weight)),
-        Err(why) => Err(Fault::of(Layer::Weight, why, place + 2)),
-    }
+    let right = Right::try_from(file[place + 1]).map_err(|why| Fault::of(
+        Layer::Body,
+        why,
+        place + 1,
+    ))?;
+    let weight = W::make(long(file, place + 2)).map_err(|why| Fault::of(
+        Layer::Weight,
+        why,
+        place + 2,
+    ))?;
+    Ok(Row::grant(right, weight))
 }
 
 // Checks `count` grants of the body from `start` on, each by 8, 9 and 10 before the next. One step for each grant.

@@ -1,2 +1,1 @@
--- The lemmas that the functions' proofs share.
-mod Digits
+-- No lemma of the crate's own.

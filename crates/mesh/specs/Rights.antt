@@ -3,7 +3,10 @@
 --     can_write r    flow goes from the device to the point
 --     letter_of r    e, r, a or w
 --     right_of l     the right of a grant whose letter is l, if l is r, a or w
-use Rattle.std.specs.Prelude.{ℕ, Bool, true, false, cond, Some, None, Option, ◌==◌}
+--     OfGrant l r    the answer r to the wish for that right
+use Rattle.std.specs.Prelude.{◌≡◌, ℕ, Bool, true, false, cond, Some, None, Option, Ok, Err, Result, ◌==◌}
+use Rattle.mesh.specs.declared.refusal.Refusal.{Refusal}
+use Rattle.mesh.specs.declared.refusal.Refusal.TheVariants.{WrongRight}
 use Rattle.mesh.specs.declared.right.Right.{Right}
 use Rattle.mesh.specs.declared.right.Right.TheVariants.{Empty, Read, Append, Both}
 
@@ -27,3 +30,7 @@ letter_of Both = 0x77
 
 abbrev pub right_of : ℕ → Option Right
 right_of l = cond (l == 0x72) (Some Read) (cond (l == 0x61) (Some Append) (cond (l == 0x77) (Some Both) None))
+
+abbrev pub OfGrant : ℕ → Result Right Refusal → Type 0
+OfGrant l (Ok r) = right_of l ≡ Some r
+OfGrant l (Err why) = (right_of l ≡ None) × (why ≡ WrongRight)

@@ -9,5 +9,4 @@ pub mod right;
 pub mod row;
 pub mod shape;
 pub mod sum;
-mod table;
 pub mod weight;

@@ -2,14 +2,14 @@
 ghost use Rattle.mesh.specs.Kinds.{peak_kind};
 ghost use Rattle.std.proofs.Common.{rules};
 
-use super::amounts::{amount_of, is_admitted};
+use super::amounts::amount_of;
 use super::decimal::write_decimal;
 use super::refusal::Refusal;
 use super::weight::Weight;
 
 // Any stored number is a weight, and counts as it is. A join is one of its two weights, so 32 bits hold all that
 // amounts can make, and a row takes half the memory that it would with 64.
-#[derive(Clone, Copy, PartialEq, Eq, Debug)]
+#[derive(Clone, Copy, PartialEq, Eq, PartialOrd, Ord, Debug)]
 pub struct Peak {
     pub value: u32,
 }
@@ -29,26 +29,20 @@ impl Weight for Peak {
     }
 
     fn make(amount: u32) -> Result<Peak, Refusal> {
-        if !is_admitted(u64::from(amount)) {
-            return Err(Refusal::WrongAmount);
-        }
-        Ok(Peak { value: amount })
+        let value = amount_of(u64::from(amount)).ok_or(Refusal::WrongAmount)?;
+        Ok(Peak { value })
     }
 
     fn amount(self) -> u32 {
-        amount_of(u64::from(self.value))
+        amount_of(u64::from(self.value)).unwrap_or(0)
     }
 
     fn join(self, other: Peak) -> Peak {
-        if self.value < other.value {
-            other
-        } else {
-            self
-        }
+        self.max(other)
     }
 
     fn at_most(self, other: Peak) -> bool {
-        self.value <= other.value
+        self <= other
     }
 
     fn text(self, memory: &mut [u8]) -> Result<usize, Refusal> {

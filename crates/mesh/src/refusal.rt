@@ -5,33 +5,33 @@ ghost use Rattle.mesh.specs.Refusals.{refusal_number};
 #[derive(Clone, Copy, PartialEq, Eq, Debug)]
 pub enum Refusal {
     // the file has fewer than four bytes
-    ShortFile,
+    ShortFile = 1,
     // the first byte is not 47 hexadecimal, or the kind is not the caller's
-    WrongHead,
+    WrongHead = 2,
     // the devices or the points are not 1 to 64
-    WrongSize,
+    WrongSize = 3,
     // the memory lent for rows, order, file or text is too short
-    ShortMemory,
+    ShortMemory = 4,
     // the file ends inside its contents
-    ShortContents,
+    ShortContents = 5,
     // a contents entry does not start where the body before it ends
-    WrongStart,
+    WrongStart = 6,
     // the file does not end with its last body
-    WrongEnd,
+    WrongEnd = 7,
     // a device or point is not in the table, or a body's points do not rise
-    OutsideTable,
+    OutsideTable = 8,
     // the right is not r, a or w
-    WrongRight,
+    WrongRight = 9,
     // the kind does not admit the amount
-    WrongAmount,
+    WrongAmount = 10,
     // there is no grant to erase
-    NothingToErase,
+    NothingToErase = 11,
     // the budget is 0, or passes the limit of visits
-    WrongBudget,
+    WrongBudget = 12,
     // the search has not ended
-    NotEnded,
+    NotEnded = 13,
     // a ring stands
-    RingStands,
+    RingStands = 14,
 }
 
 impl Refusal {
@@ -39,21 +39,6 @@ impl Refusal {
     pub fn number(self) -> u8
         ensures value { result ≡ refusal_number self }
     {
-        match self {
-            Refusal::ShortFile => 1,
-            Refusal::WrongHead => 2,
-            Refusal::WrongSize => 3,
-            Refusal::ShortMemory => 4,
-            Refusal::ShortContents => 5,
-            Refusal::WrongStart => 6,
-            Refusal::WrongEnd => 7,
-            Refusal::OutsideTable => 8,
-            Refusal::WrongRight => 9,
-            Refusal::WrongAmount => 10,
-            Refusal::NothingToErase => 11,
-            Refusal::WrongBudget => 12,
-            Refusal::NotEnded => 13,
-            Refusal::RingStands => 14,
-        }
+        self as u8
     }
 }

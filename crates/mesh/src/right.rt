@@ -1,6 +1,8 @@
 // What a grant lets its device do at its point.
 ghost use Rattle.std.specs.Prelude.{◌≡◌};
-ghost use Rattle.mesh.specs.Rights.{can_read, can_write, letter_of, right_of};
+ghost use Rattle.mesh.specs.Rights.{OfGrant, can_read, can_write, letter_of};
+
+use super::refusal::Refusal;
 
 #[derive(Clone, Copy, PartialEq, Eq, Debug)]
 pub enum Right {
@@ -42,16 +44,20 @@ impl Right {
             Right::Both => b'w',
         }
     }
+}
 
-    // The right of a grant by its letter, r, a or w; none for any other byte, e among them. Constant time.
-    pub fn of_grant(letter: u8) -> Option<Right>
-        ensures value { result ≡ right_of letter }
-    {
+// The right of a grant by its letter, r, a or w; any other byte, e among them, is refused 9. Constant time.
+impl TryFrom<u8> for Right {
+    type Error = Refusal;
+
+    ghost try_from_gives = { OfGrant };
+
+    fn try_from(letter: u8) -> Result<Right, Refusal> {
         match letter {
-            b'r' => Some(Right::Read),
-            b'a' => Some(Right::Append),
-            b'w' => Some(Right::Both),
-            _ => None,
+            b'r' => Ok(Right::Read),
+            b'a' => Ok(Right::Append),
+            b'w' => Ok(Right::Both),
+            _ => Err(Refusal::WrongRight),
         }
     }
 }

@@ -3,7 +3,7 @@ ghost use Rattle.std.specs.Prelude.{◌≡◌};
 ghost use Rattle.mesh.specs.Kinds.{held, sum_kind};
 ghost use Rattle.std.proofs.Common.{rules};
 
-use super::amounts::{amount_of, is_admitted};
+use super::amounts::amount_of;
 use super::decimal::write_decimal;
 use super::refusal::Refusal;
 use super::weight::Weight;
@@ -20,7 +20,7 @@ const MOST: u64 = 1 << 40;
 fn hold(number: u64) -> u64
     ensures value { result ≡ held number }
 {
-    if number < MOST { number } else { MOST }
+    number.min(MOST)
 }
 
 // Each call keeps the promise of the trait in constant time, and the text, of 1 to 13 digits, in time linear in them.
@@ -38,15 +38,14 @@ impl Weight for Sum {
     }
 
     fn make(amount: u32) -> Result<Sum, Refusal> {
-        let value = u64::from(amount);
-        if !is_admitted(value) {
-            return Err(Refusal::WrongAmount);
-        }
-        Ok(Sum { value })
+        let value = amount_of(u64::from(amount)).ok_or(Refusal::WrongAmount)?;
+        Ok(Sum {
+            value: u64::from(value),
+        })
     }
 
     fn amount(self) -> u32 {
-        amount_of(hold(self.value))
+        amount_of(hold(self.value)).unwrap_or(0)
     }
 
     fn join(self, other: Sum) -> Sum {

@@ -1,6 +1,6 @@
 // The weight kind steps, in which a weight counts by its tens.
 ghost use Rattle.std.specs.Prelude.{◌≡◌};
-ghost use Rattle.trials.specs.Steps.{admitted, step_of, steps_kind};
+ghost use Rattle.trials.specs.Steps.{AmountIn, step_of, steps_kind};
 ghost use Rattle.std.proofs.Common.{rules};
 
 use mesh::refusal::Refusal;
@@ -12,11 +12,14 @@ pub struct Steps {
     pub height: u8,
 }
 
-// Whether the number is an amount: 1 to 9, or 20 to 29. Constant time.
-fn is_admitted(number: u32) -> bool
-    ensures value { result ≡ admitted number }
+// The number as an amount, if it is one: 1 to 9, or 20 to 29. Constant time.
+fn amount_of(number: u32) -> Option<u8>
+    ensures cases { AmountIn number result }
 {
-    matches!(number, 1..=9 | 20..=29)
+    match number {
+        1..=9 | 20..=29 => Some(number as u8),
+        _ => None,
+    }
 }
 
 impl Steps {
@@ -43,17 +46,13 @@ impl Weight for Steps {
     }
 
     fn make(amount: u32) -> Result<Steps, Refusal> {
-        if !is_admitted(amount) {
-            return Err(Refusal::WrongAmount);
-        }
-        Ok(Steps {
-            height: amount as u8,
-        })
+        let height = amount_of(amount).ok_or(Refusal::WrongAmount)?;
+        Ok(Steps { height })
     }
 
     fn amount(self) -> u32 {
-        let number = u32::from(self.height);
-        if is_admitted(number) { number } else { 0 }
+        let amount = amount_of(u32::from(self.height)).unwrap_or(0);
+        u32::from(amount)
     }
 
     fn join(self, other: Steps) -> Steps {
@@ -69,10 +68,10 @@ impl Weight for Steps {
     }
 
     fn text(self, memory: &mut [u8]) -> Result<usize, Refusal> {
-        if memory.len() < 1 {
+        let Some(front) = memory.first_mut() else {
             return Err(Refusal::ShortMemory);
-        }
-        memory[0] = b'a' + self.step();
+        };
+        *front = b'a' + self.step();
         Ok(1)
     }
 }

@@ -2,6 +2,7 @@
 use super::steps::Steps;
 use mesh::peak::Peak;
 use mesh::refusal::Refusal;
+use mesh::right::Right;
 use mesh::sum::Sum;
 use mesh::weight::Weight;
 use std::process::Abort;
@@ -9,10 +10,8 @@ use std::test::Fail;
 
 // The amount of the weight that the kind makes, or the number of its refusal.
 fn making<W: Weight>(amount: u32) -> Result<u32, u8> {
-    match W::make(amount) {
-        Ok(weight) => Ok(weight.amount()),
-        Err(why) => Err(why.number()),
-    }
+    let weight = W::make(amount).map_err(|why| why.number())?;
+    Ok(weight.amount())
 }
 
 // Checks the text's length, and the memory after it was written there.
@@ -96,4 +95,13 @@ fn a_kind_of_its_own(rt: HostRuntime) -> Result<(), Fail> {
     assert_eq!(rt; high.join(Steps { height: 25 }), high);
     assert!(rt; Steps { height: 25 }.at_most(high));
     writes(&rt, high, 1, b"c.............")
+}
+
+#[test]
+fn letters_are_rights(rt: HostRuntime) {
+    assert_eq!(rt; Right::try_from(b'r'), Ok(Right::Read));
+    assert_eq!(rt; Right::try_from(b'a'), Ok(Right::Append));
+    assert_eq!(rt; Right::try_from(b'w'), Ok(Right::Both));
+    assert_eq!(rt; Right::try_from(b'e'), Err(Refusal::WrongRight));
+    assert_eq!(rt; Right::Append.letter(), b'a');
 }
