@@ -2,12 +2,10 @@
 #![tactic(auto)]
 
 use report::flow_order::{MOST_BYTES, flow_order};
-use std::io;
-use std::io::Read;
+use std::io::{self, Read};
 
 fn main(rt: HostRuntime) -> io::Result<()> {
     let mut input = Vec::new(rt.alloc());
     rt.stdin().take(MOST_BYTES as u64).read_to_end(&mut input)?;
-    let answer = flow_order(rt.alloc(), input.as_slice())?;
-    rt.print(answer)
+    print!(rt; "{}", flow_order(rt.alloc(), &input)?)
 }

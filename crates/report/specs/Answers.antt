@@ -3,8 +3,9 @@
 --     is_named_peak file    the file's second byte is the number of peak; any other file is read as one of sum
 --     Ordered g n out       of n devices with the rights g: they come in flow order, or a ring stands
 --     Answered k file out   the file is refused with its first fault, or its grants fill a table whose order is answered
+--     line_of r             the line on a device order, or on a refusal
 --     Printed input out     the whole answer
-use Rattle.std.specs.Prelude.{◌≡◌, ℕ, Bool, List, take, Some, None, MatchBool, ◌==◌}
+use Rattle.std.specs.Prelude.{◌≡◌, ℕ, Bool, List, take, Some, None, Ok, Err, Result, MatchBool, ◌==◌}
 use Rattle.mesh.specs.declared.refusal.Refusal.TheVariants.{RingStands}
 use Rattle.mesh.specs.declared.row.Row.{Row}
 use Rattle.mesh.specs.declared.shape.Shape.{Shape}
@@ -16,6 +17,8 @@ use Rattle.grantfile.specs.declared.fault.Fault.{Fault}
 use Rattle.grantfile.specs.Format.{byte_at, ShapeOf}
 use Rattle.grantfile.specs.Reading.{Filled}
 use Rattle.grantfile.specs.Tests.{first, all_tests}
+use Rattle.report.specs.declared.lines.Order.{Order}
+use Rattle.report.specs.declared.lines.Refused.{Refused}
 use Rattle.report.specs.Lines.{line_of_refusal, line_of_order}
 
 abbrev pub file_of : List ℕ → List ℕ
@@ -36,6 +39,10 @@ pub data Answered {W : Type 0} (k : Kind W) (file out : List ℕ) : Type 0 where
   refused : (f : Fault) → first (all_tests k lent_rows file) ≡ Some f → out ≡ line_of_refusal f.why f.place → Answered k file out
   accepted : (s : Shape) (rows : List (Row W)) → first (all_tests k lent_rows file) ≡ None → ShapeOf file s → Filled k s file rows
       → Ordered (rights s rows) s.devices out → Answered k file out
+
+abbrev pub line_of : Result Order Refused → List ℕ
+line_of (Ok o) = line_of_order o.devices.items
+line_of (Err r) = line_of_refusal r.why r.place
 
 abbrev pub Printed : List ℕ → List ℕ → Type 0
 Printed input out = MatchBool (is_named_peak (file_of input)) (Answered peak_kind (file_of input) out) (Answered sum_kind (file_of input) out)

@@ -1,15 +1,13 @@
 // The answer of `floworder`: the device order of a grant file, or why there is none.
-ghost use Rattle.std.specs.Prelude.{◌≡◌, ◌≤◌, length, IfOk, string_bytes};
-ghost use Rattle.flow.specs.Flow.{rights};
-ghost use Rattle.mesh.specs.Table.{rows_of};
-ghost use Rattle.report.specs.Answers.{Answered, Ordered, Printed, file_of, is_named_peak};
+ghost use Rattle.std.specs.Prelude.{◌≡◌, length, IfOk, string_bytes};
+ghost use Rattle.report.specs.Answers.{Answered, Printed, file_of, is_named_peak, line_of};
 
-use super::lines::{order_line, refused_line};
+use super::lines::{Order, Refused};
+use arrayvec::ArrayVec;
 use flow::order::order;
 use grantfile::reading::read;
 use mesh::peak::Peak;
 use mesh::row::Row;
-use mesh::shape::Shape;
 use mesh::sum::Sum;
 use mesh::weight::Weight;
 use std::alloc::{AllocError, Global};
@@ -20,26 +18,26 @@ pub const MOST_BYTES: usize = 65536;
 // As many rows as the largest table has.
 const MOST_ROWS: usize = 64 * 64;
 
-// The line on a table's order.
-fn ordered<W: Weight>(heap: Global, shape: Shape, rows: &[Row<W>]) -> Result<String, AllocError>
-    requires { rows_of shape ≤ length rows.now }
-    ensures made { IfOk result (λ t. Ordered (rights shape rows.now) shape.devices (string_bytes t)) }
+// The device order of a file of the kind `W`, whose grants fill the lent rows, or why there is none.
+fn device_order<W: Weight>(file: &[u8], rows: &mut [Row<W>]) -> Result<Order, Refused>
+    requires { length rows.old ≡ MOST_ROWS }
+    ensures answered { Answered W.Weight.meaning file.now (line_of result) }
 {
-    let mut memory = [0; 64];
-    match order(shape, rows, &mut memory) {
-        Ok(devices) => order_line(heap, &memory[0..devices]),
-        Err(why) => refused_line(heap, why, 0),
-    }
+    let shape = read(file, rows)?;
+    let mut devices = ArrayVec::from([0; 64]);
+    let count = order(shape, rows, &mut devices)?;
+    devices.truncate(count);
+    Ok(Order { devices })
 }
 
-// The answer for a file of the kind `W`.
-fn answer<W: Weight + Clone>(heap: Global, file: &[u8]) -> Result<String, AllocError>
+// The line on a file of the kind `W`.
+fn answer<W: Weight>(heap: Global, file: &[u8]) -> Result<String, AllocError>
     ensures made { IfOk result (λ t. Answered W.Weight.meaning file.now (string_bytes t)) }
 {
     let mut rows = vec![in heap; Row::<W>::empty(); MOST_ROWS]?;
-    match read(file, rows.as_mut_slice()) {
-        Ok(shape) => ordered(heap, shape, rows.as_slice()),
-        Err(fault) => refused_line(heap, fault.why, fault.place),
+    match device_order(file, &mut rows) {
+        Ok(order) => order.to_string(heap),
+        Err(refused) => refused.to_string(heap),
     }
 }
 
@@ -47,18 +45,14 @@ fn answer<W: Weight + Clone>(heap: Global, file: &[u8]) -> Result<String, AllocE
 fn file_part(input: &[u8]) -> &[u8]
     ensures value { result.now ≡ file_of input.now }
 {
-    if input.len() < MOST_BYTES {
-        input
-    } else {
-        &input[0..MOST_BYTES]
-    }
+    &input[..input.len().min(MOST_BYTES)]
 }
 
 // Whether the file's second byte is the number of peak.
 fn names_peak(file: &[u8]) -> bool
     ensures value { result ≡ is_named_peak file.now }
 {
-    file.len() >= 2 && file[1] == Peak::kind()
+    file.get(1) == Some(&Peak::kind())
 }
 
 // All the bytes that `floworder` prints for its input: `order` and the devices in flow order, or `refused`, the

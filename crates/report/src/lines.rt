@@ -1,27 +1,64 @@
-// The lines that the programs print.
-ghost use Rattle.std.specs.Prelude.{◌≡◌, IfOk, string_bytes};
-ghost use Rattle.report.specs.Lines.{line_of_refusal, line_of_order};
+// What `floworder` finds, and how it prints as a line: a device order, or a refusal.
+ghost use Rattle.std.specs.Prelude.{◌≡◌, Some};
+ghost use Rattle.report.specs.Lines.{line_of_order, line_of_refusal};
 
+use arrayvec::ArrayVec;
+use grantfile::fault::Fault;
 use mesh::refusal::Refusal;
-use std::alloc::{AllocError, Global};
+use std::error::Error;
+use std::fmt;
 
-// A refusal: its number and its place.
-pub(crate) fn refused_line(heap: Global, why: Refusal, place: usize) -> Result<String, AllocError>
-    ensures made { IfOk result (λ t. string_bytes t ≡ line_of_refusal why place) }
-{
-    let number = why.number();
-    format!(in heap; "refused {number} {place}\n")
+// The devices of a table in flow order.
+#[derive(Drop, Debug)]
+pub(crate) struct Order {
+    pub(crate) devices: ArrayVec<u8, 64>,
 }
 
-// The devices in order.
-pub(crate) fn order_line(heap: Global, devices: &[u8]) -> Result<String, AllocError>
-    ensures made { IfOk result (λ t. string_bytes t ≡ line_of_order devices.now) }
-{
-    let mut line = String::from_str(heap, "order")?;
-    for d in devices {
-        let field = format!(in heap; " {d}")?;
-        line.push_str(field.as_str())?;
+impl fmt::Display for Order {
+    ghost output = { λ order. Some (line_of_order order.devices.items) };
+
+    fn fmt<W: fmt::Write>(&self, f: &mut fmt::Formatter<W>) -> fmt::Result {
+        write!(f, "order")?;
+        for device in self.devices.iter() {
+            write!(f, " {device}")?;
+        }
+        writeln!(f)
     }
-    line.push('\n')?;
-    Ok(line)
+}
+
+// Why there is no order, and the place in the file that shows it.
+#[derive(Clone, Copy, PartialEq, Eq, Debug)]
+pub(crate) struct Refused {
+    pub(crate) why: Refusal,
+    pub(crate) place: usize,
+}
+
+impl fmt::Display for Refused {
+    ghost output = { λ refused. Some (line_of_refusal refused.why refused.place) };
+
+    fn fmt<W: fmt::Write>(&self, f: &mut fmt::Formatter<W>) -> fmt::Result {
+        writeln!(f, "refused {} {}", self.why.number(), self.place)
+    }
+}
+
+impl Error for Refused {}
+
+impl From<Fault> for Refused {
+    ghost from_gives = { λ fault refused. refused ≡ record { why = fault.why; place = fault.place } };
+
+    fn from(fault: Fault) -> Refused {
+        Refused {
+            why: fault.why,
+            place: fault.place,
+        }
+    }
+}
+
+// A ring is no byte's fault: it is reported at place 0.
+impl From<Refusal> for Refused {
+    ghost from_gives = { λ why refused. refused ≡ record { why = why; place = 0 } };
+
+    fn from(why: Refusal) -> Refused {
+        Refused { why, place: 0 }
+    }
 }

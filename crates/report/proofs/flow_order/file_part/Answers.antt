@@ -1,10 +1,9 @@
-use Rattle.std.proofs.Common.{sym, refl, arith}
-use Rattle.std.proofs.lemmas.List.{take_all}
+use Rattle.std.proofs.Common.{take, ap, ◌∙◌}
+use Rattle.std.proofs.Math.Nat.{min_comm}
+use Rattle.std.proofs.lemmas.List.{take_min}
 use Rattle.report.proofs.flow_order.file_part.Goals as goal
 
-pub returns-then-input-lt-MOST_BYTES : goal.returns-then-input-lt-MOST_BYTES
-returns-then-input-lt-MOST_BYTES c = record { value = sym (take_all 65536 c.args.input.now (omega arith)) }
-
--- by definition: so another number of bytes is refused at once, and no search counts up to it
-pub returns-else-input-lt-MOST_BYTES : goal.returns-else-input-lt-MOST_BYTES
-returns-else-input-lt-MOST_BYTES c = record { value = refl }
+pub returns : goal.returns
+returns c =
+    let input = c.args.input.now in
+    record { value = ap (λ n. take n input) (c.min.ensures ∙ min_comm _ _) ∙ take_min 65536 input }
