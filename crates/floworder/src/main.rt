@@ -7,5 +7,6 @@ use std::io::{self, Read};
 fn main(rt: HostRuntime) -> io::Result<()> {
     let mut input = Vec::new(rt.alloc());
     rt.stdin().take(MOST_BYTES as u64).read_to_end(&mut input)?;
-    print!(rt; "{}", flow_order(rt.alloc(), &input)?)
+    let answer = flow_order(rt.alloc(), &input)?;
+    print!(rt; "{answer}")
 }

@@ -1,4 +1,4 @@
-// What `floworder` finds, and how it prints as a line: a device order, or a refusal.
+// What `floworder` finds in a file, and the line that it prints as: a device order, or a refusal.
 ghost use Rattle.std.specs.Prelude.{◌≡◌, Some};
 ghost use Rattle.report.specs.Lines.{line_of_order, line_of_refusal};
 
@@ -26,7 +26,7 @@ impl fmt::Display for Order {
     }
 }
 
-// Why there is no order, and the place in the file that shows it.
+// Why there is no order, and at which byte of the file. A derive of `thiserror` would state neither text nor conversion.
 #[derive(Clone, Copy, PartialEq, Eq, Debug)]
 pub(crate) struct Refused {
     pub(crate) why: Refusal,
@@ -54,7 +54,7 @@ impl From<Fault> for Refused {
     }
 }
 
-// A ring is no byte's fault: it is reported at place 0.
+// What is refused of the table, and not of a byte of its file, is at place 0: a ring.
 impl From<Refusal> for Refused {
     ghost from_gives = { λ why refused. refused ≡ record { why = why; place = 0 } };
 
