@@ -7,18 +7,16 @@ use mesh::right::Right;
 use mesh::row::Row;
 use mesh::shape::Shape;
 use mesh::sum::Sum;
+use std::array;
 use std::test::Fail;
 
 // 64 devices with an inbox each: a device reads its own, and appends to that of the next one.
 fn line() -> [Row<Sum>; 4096] {
-    let mut rows = [Row::empty(); 4096];
-    for d in 0..64 {
-        rows[65 * d] = Row::grant(Right::Read, Sum { value: 1 });
-        if d < 63 {
-            rows[65 * d + 1] = Row::grant(Right::Append, Sum { value: 1 });
-        }
-    }
-    rows
+    array::from_fn(|row| match row % 65 {
+        0 => Row::grant(Right::Read, Sum { value: 1 }),
+        1 => Row::grant(Right::Append, Sum { value: 1 }),
+        _ => Row::empty(),
+    })
 }
 
 #[test]
@@ -67,7 +65,7 @@ fn the_line_closed_to_a_ring(rt: HostRuntime) -> Result<(), Fail> {
 
 #[test]
 fn refusals_of_a_table(rt: HostRuntime) -> Result<(), Fail> {
-    assert_eq!(rt; Shape::new(65, 1).is_ok(), false);
+    assert!(rt; Shape::new(65, 1).is_err());
     let shape = Shape::new(2, 2)?;
     let rows = [Row::<Sum>::empty(); 3];
     assert_eq!(rt; followers(shape, &rows), ([0; 64], 4));

@@ -10,8 +10,7 @@ use std::test::Fail;
 
 // The amount of the weight that the kind makes, or the number of its refusal.
 fn making<W: Weight>(amount: u32) -> Result<u32, u8> {
-    let weight = W::make(amount).map_err(|why| why.number())?;
-    Ok(weight.amount())
+    W::make(amount).map(W::amount).map_err(Refusal::number)
 }
 
 // Checks the text's length, and the memory after it was written there.
