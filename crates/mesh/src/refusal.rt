@@ -35,7 +35,7 @@ pub enum Refusal {
 }
 
 impl Refusal {
-    // The number by which a refusal is reported, 1 to 14. Constant time.
+    // The number by which a refusal is reported, 1 to 14. Constant time. No `From`: `number` says more than `u8::from`.
     pub fn number(self) -> u8
         ensures value { result ≡ refusal_number self }
     {

@@ -33,7 +33,8 @@ impl Right {
         }
     }
 
-    // The letter that stands for the right: e, r, a or w. Constant time.
+    // The letter that stands for the right: e, r, a or w. Constant time. No `From`: it would read as the inverse of `try_from`,
+    // which knows no e.
     pub fn letter(self) -> u8
         ensures value { result ≡ letter_of self }
     {

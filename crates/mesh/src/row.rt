@@ -14,7 +14,8 @@ pub enum Choice {
     Revoke,
 }
 
-// The second mark, `held`, tells whether the best plan holds the row's grant.
+// The second mark, `held`, tells whether the best plan holds the row's grant. Right and weight stand side by side, e with zero
+// where there is no grant, and not in an `Option`: rows lie in the caller's memory, and their four fields are a rule.
 #[derive(Clone, Copy)]
 pub struct Row<W> {
     pub right: Right,
