@@ -1,5 +1,7 @@
 -- From the rows to the points that devices read and write, and from these to followers.
 use Rattle.std.proofs.Common.{◌≡◌, ℕ, zero, suc, ◌+◌, ◌*◌, ◌<◌, ◌≤◌, Bool, true, false, cond, not, ◌&&◌, T, eqb, ltb, ◌≢◌, ◌⊎◌, List, [], ◌∷◌, map, length, get_or, set, replicate, sym, refl, ap, ◌∙◌, subst, ap₂, inl, inr, le_of_suc-le-suc, not-suc-le-zero, mul-le-mul_right, suc-mul, arith, length-set, get_or-set_other, get_or-set_same, ltb-false, ltb-true, le-ltb, lt-ltb, ne_eqb, eqb-true}
+use Rattle.std.specs.Int.{bit_at}
+use Rattle.std.proofs.lemmas.Nat.Bits.{bit_at-zero, bit_at_above}
 use borrow.Author.Tests.{eqb-false}
 use Rattle.std.proofs.lemmas.List.{get_or-replicate, get_or_past}
 use Rattle.std.proofs.lemmas.Bool.{cases_lt, and_parts, not-true}
@@ -12,9 +14,9 @@ use Rattle.mesh.specs.Rights.{can_read, can_write}
 use Rattle.mesh.specs.Table.{row_of}
 use Rattle.flow.specs.Flow.{Rights, right_at, placed, rights, Source}
 use Rattle.flow.specs.Followers.{Follows, Followers}
-use Rattle.flow.specs.Sets.{bit, flag, meets, set_of}
+use Rattle.flow.specs.Sets.{flag, meets, set_of}
 use Rattle.flow.specs.Touched.{Touches, feeds}
-use Rattle.flow.proofs.SetLaws.{set_of_bit, set_of_lt, set_of_within, bit_high, bit_none, meets_found, meets_at, empty_has_none}
+use Rattle.flow.proofs.SetLaws.{set_of_bit, set_of_lt, set_of_within, meets_found, meets_at, empty_has_none}
 
 -- the right in a row that is read
 pub right_in_row : {W : Type 0} (rows : List (Row W)) (i : ℕ) (x : Row W) → i < length rows → right_at rows i ≡ (get_or rows i x).right
@@ -59,7 +61,7 @@ device_fits d devices points len h l =
     omega (arith, suc-mul d points)
 
 pub touched : {W : Type 0} (test : Right → Bool) → test Empty ≡ false → (s : Shape) (rows : List (Row W)) (xs : List ℕ) → s.devices ≤ 64
-    → FilledTo (points_by test rows s.points) s.devices xs → (d p : ℕ) → bit (get_or xs d 0) p ≡ flag (test (rights s rows d p))
+    → FilledTo (points_by test rows s.points) s.devices xs → (d p : ℕ) → bit_at (get_or xs d 0) p ≡ flag (test (rights s rows d p))
 touched test none s rows xs le f d p = go (ltb d s.devices) refl (ltb p s.points) refl
   where
     at : d < 64 → (b : Bool) → ltb d s.devices ≡ b → get_or xs d 0 ≡ cond b (points_by test rows s.points d) 0
@@ -69,14 +71,14 @@ touched test none s rows xs le f d p = go (ltb d s.devices) refl (ltb p s.points
     past t (inl l) = at l false t
     past t (inr g) = let e = f.0 in get_or_past xs d 0 (omega arith)
 
-    go : (b : Bool) → ltb d s.devices ≡ b → (c : Bool) → ltb p s.points ≡ c → bit (get_or xs d 0) p ≡ flag (test (cond (b && c) (right_at rows (d * s.points + p)) Empty))
+    go : (b : Bool) → ltb d s.devices ≡ b → (c : Bool) → ltb p s.points ≡ c → bit_at (get_or xs d 0) p ≡ flag (test (cond (b && c) (right_at rows (d * s.points + p)) Empty))
     go true t true u =
         let l = ltb-true d s.devices t in
-        ap (λ w. bit w p) (at (omega arith) true t) ∙ set_of_bit _ s.points p (ltb-true p s.points u)
+        ap (λ w. bit_at w p) (at (omega arith) true t) ∙ set_of_bit _ s.points p (ltb-true p s.points u)
     go true t false u =
         let l = ltb-true d s.devices t in
-        ap (λ w. bit w p) (at (omega arith) true t) ∙ bit_high s.points _ p (set_of_lt _ s.points) (ltb-false p s.points u) ∙ ap flag (sym none)
-    go false t c u = ap (λ w. bit w p) (past t (cases_lt d 64)) ∙ bit_none p ∙ ap flag (sym none)
+        ap (λ w. bit_at w p) (at (omega arith) true t) ∙ bit_at_above _ s.points p (set_of_lt _ s.points) (ltb-false p s.points u) ∙ ap flag (sym none)
+    go false t c u = ap (λ w. bit_at w p) (past t (cases_lt d 64)) ∙ bit_at-zero p ∙ ap flag (sym none)
 
 -- ---- followers
 
@@ -149,11 +151,11 @@ module _ {W : Type 0} (s : Shape) (rows : List (Row W)) (f : Flow) (words : List
     sound = λ a b m. feeds_source (rights s rows) f a b t (member a b (cases_lt a s.devices) m);
     whole = λ a b h.
         let w = source_within s rows a b h in
-        ap (λ x. bit x b) (words_at a w.0) ∙ set_of_bit (feeds f a) s.devices b w.1 ∙ ap flag (source_feeds (rights s rows) f a b t h);
+        ap (λ x. bit_at x b) (words_at a w.0) ∙ set_of_bit (feeds f a) s.devices b w.1 ∙ ap flag (source_feeds (rights s rows) f a b t h);
   }
     where
       member : (a b : ℕ) → (a < s.devices) ⊎ (s.devices ≤ a) → Follows words a b → feeds f a b ≡ true
       member a b (inl l) m =
-          let i = ap (λ x. bit x b) (sym (words_at a l)) ∙ m in
+          let i = ap (λ x. bit_at x b) (sym (words_at a l)) ∙ m in
           flag_true _ (sym (set_of_bit (feeds f a) s.devices b (set_of_within (feeds f a) s.devices b i)) ∙ i)
       member a b (inr g) m = absurd (empty_has_none (get_or words a 0) b (words_past a g) m)

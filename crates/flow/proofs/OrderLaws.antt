@@ -1,17 +1,19 @@
 -- Rings and orders: devices that all wait for one another hold a ring, and an order leaves room for none.
 use Rattle.std.proofs.Common.{◌≡◌, ℕ, zero, suc, ◌+◌, ◌-◌, ◌^◌, ◌<◌, ◌≤◌, max, Bool, true, false, cond, eqb, ◌⊎◌, List, [], ◌∷◌, ◌++◌, length, get_or, take, drop, set, Some, None, sym, refl, ap, ◌∙◌, subst, inl, inr, not-suc-le-zero, arith, length-set, get_or-set_other, get_or-set_same, eq-eqb, eqb-true}
+use Rattle.std.specs.Int.{bit_at}
+use Rattle.std.proofs.lemmas.Nat.Bits.{bit_at-lt, bit_at-zero, bit_at_above}
 use lib.Bits.{bit_or, or_lt}
 use lib.Count.{ones, ones-le}
 use lib.Pow.{pow-lt}
 use borrow.Author.Tests.{eqb-false}
 use Rattle.std.proofs.lemmas.List.{take_more_set, take-set, take-set-le, take-take, get_or-take, length-take-le, take_at, drop_at}
 use Rattle.std.proofs.lemmas.Bool.{cases_lt}
-use Rattle.flow.specs.Sets.{bit, flag, Member}
+use Rattle.flow.specs.Sets.{flag, Member}
 use Rattle.flow.specs.Flow.{Rights, Source, In, Different, Chain, Ring}
 use Rattle.flow.specs.Followers.{Follows, Followers}
 use Rattle.flow.specs.Order.{Ready, Lowest, FlowOrder}
 use Rattle.flow.specs.Listing.{Waits, NextOf}
-use Rattle.flow.proofs.SetLaws.{bit_none, bit_with, bit_lt, bit_high, bit_choice, bit_pow, ones_insert, ones_pow, ones_zero, some_member, no_ones}
+use Rattle.flow.proofs.SetLaws.{bit_with, bit_choice, bit_pow, ones_insert, ones_pow, ones_zero, some_member, no_ones}
 
 -- ---- from devices that all wait to a ring
 
@@ -67,7 +69,7 @@ close g s x xs h t d i = ring u.over u.chain (u.before, u.different)
     ring (y ∷ ys) c d' = record { first = s; others = y ∷ ys; several = omega arith; different = d'; round = c }
 
 -- a set of 64 has every number below 64
-full : (w i : ℕ) → w < 2 ^ 64 → ones w ≡ 64 → i < 64 → bit w i ≡ 0 → ⊥
+full : (w i : ℕ) → w < 2 ^ 64 → ones w ≡ 64 → i < 64 → bit_at w i ≡ 0 → ⊥
 full w i h all l z =
     let more = ones_insert i w z in
     let few = ones-le 64 (bit_or w (2 ^ i)) (or_lt 64 w (2 ^ i) h (pow-lt l)) in
@@ -80,9 +82,9 @@ Hunt g left fuel x xs seen =
     → ((i : ℕ) → Member i seen → In i (x ∷ xs)) → ((i : ℕ) → In i (x ∷ xs) → Member i seen) → Ring g
 
 pub left_small : (left s : ℕ) → left < 2 ^ 64 → Member s left → s < 64
-left_small left s h m = elim (cases_lt s 64) [ inl l ↦ l | inr ge ↦ (let z = bit_high 64 left s h ge in absurd (omega arith)) ]
+left_small left s h m = elim (cases_lt s 64) [ inl l ↦ l | inr ge ↦ (let z = bit_at_above left 64 s h ge in absurd (omega arith)) ]
 
-hunt_more : (g : Rights) (left f x : ℕ) (xs : List ℕ) (seen s : ℕ) → s < 64 → Member s left → Source g s x → bit seen s ≡ 0
+hunt_more : (g : Rights) (left f x : ℕ) (xs : List ℕ) (seen s : ℕ) → s < 64 → Member s left → Source g s x → bit_at seen s ≡ 0
     → Hunt g left f s (x ∷ xs) (bit_or seen (2 ^ s)) → Hunt g left (suc f) x xs seen
 hunt_more g left f x xs seen s small ms h new on hs many here trail diff listed all =
     let more = ones_insert s seen new in
@@ -93,8 +95,8 @@ hunt_more g left f x xs seen s small ms h new on hs many here trail diff listed 
     back i o false e = let a = bit_with s seen i in let z : flag (eqb i s) ≡ 0 = ap flag e in inr (listed i (omega arith))
 
     forth : (i : ℕ) → In i (s ∷ x ∷ xs) → Member i (bit_or seen (2 ^ s))
-    forth i (inl e) = let a = bit_with s seen i in let o : flag (eqb i s) ≡ 1 = ap flag (eq-eqb i s e) in let l = bit_lt seen i in omega arith
-    forth i (inr j) = let a = bit_with s seen i in let o = all i j in let l = bit_lt (bit_or seen (2 ^ s)) i in omega arith
+    forth i (inl e) = let a = bit_with s seen i in let o : flag (eqb i s) ≡ 1 = ap flag (eq-eqb i s e) in let l = bit_at-lt seen i in omega arith
+    forth i (inr j) = let a = bit_with s seen i in let o = all i j in let l = bit_at-lt (bit_or seen (2 ^ s)) i in omega arith
 
 hunt : (g : Rights) (left : ℕ) → left < 2 ^ 64 → ((b : ℕ) → Member b left → (a : ℕ) × Member a left × Source g a b)
     → (fuel x : ℕ) (xs : List ℕ) (seen : ℕ) → Hunt g left fuel x xs seen
@@ -182,30 +184,30 @@ pub record WaitingTo (words : List ℕ) (left n waits : ℕ) : Type 0 where
   pub whole : (a b : ℕ) → a < n → Member a left → Follows words a b → Member b waits
 
 pub waiting_none : (words : List ℕ) (left : ℕ) → WaitingTo words left 0 0
-waiting_none words left = record { sound = λ b m. let z = bit_none b in absurd (omega arith); whole = λ a b l. absurd (not-suc-le-zero l) }
+waiting_none words left = record { sound = λ b m. let z = bit_at-zero b in absurd (omega arith); whole = λ a b l. absurd (not-suc-le-zero l) }
 
-pub waiting_skip : (words : List ℕ) (left n waits : ℕ) → bit left n ≡ 0 → WaitingTo words left n waits → WaitingTo words left (n + 1) waits
+pub waiting_skip : (words : List ℕ) (left n waits : ℕ) → bit_at left n ≡ 0 → WaitingTo words left n waits → WaitingTo words left (n + 1) waits
 waiting_skip words left n waits z w = record { sound = w.sound; whole = λ a b l m f. go a b l m f (cases_lt a n) }
   where
     go : (a b : ℕ) → a < n + 1 → Member a left → Follows words a b → (a < n) ⊎ (n ≤ a) → Member b waits
     go a b l m f (inl h) = w.whole a b h m f
-    go a b l m f (inr h) = let e : a ≡ n = omega arith in let y : bit left a ≡ bit left n = ap (bit left) e in absurd (omega arith)
+    go a b l m f (inr h) = let e : a ≡ n = omega arith in let y : bit_at left a ≡ bit_at left n = ap (bit_at left) e in absurd (omega arith)
 
-pub waiting_more : (words : List ℕ) (left n waits more : ℕ) → Member n left → ((i : ℕ) → bit more i ≡ max (bit waits i) (bit (get_or words n 0) i))
+pub waiting_more : (words : List ℕ) (left n waits more : ℕ) → Member n left → ((i : ℕ) → bit_at more i ≡ max (bit_at waits i) (bit_at (get_or words n 0) i))
     → WaitingTo words left n waits → WaitingTo words left (n + 1) more
 waiting_more words left n waits more m either w = record { sound = λ b o. from b o (bit_choice waits b); whole = λ a b l o f. go a b l o f (cases_lt a n) }
   where
-    from : (b : ℕ) → Member b more → (bit waits b ≡ 0) ⊎ (bit waits b ≡ 1) → Waits words left b
-    from b o (inl z) = let e = either b in let l = bit_lt (get_or words n 0) b in (n, m, omega arith)
+    from : (b : ℕ) → Member b more → (bit_at waits b ≡ 0) ⊎ (bit_at waits b ≡ 1) → Waits words left b
+    from b o (inl z) = let e = either b in let l = bit_at-lt (get_or words n 0) b in (n, m, omega arith)
     from b o (inr y) = w.sound b y
 
     go : (a b : ℕ) → a < n + 1 → Member a left → Follows words a b → (a < n) ⊎ (n ≤ a) → Member b more
-    go a b l o f (inl h) = let y = w.whole a b h o f in let e = either b in let u = bit_lt (get_or words n 0) b in omega arith
+    go a b l o f (inl h) = let y = w.whole a b h o f in let e = either b in let u = bit_at-lt (get_or words n 0) b in omega arith
     go a b l o f (inr h) =
         let q : a ≡ n = omega arith in
-        let y : bit (get_or words n 0) b ≡ 1 = ap (λ k. bit (get_or words k 0) b) (sym q) ∙ f in
+        let y : bit_at (get_or words n 0) b ≡ 1 = ap (λ k. bit_at (get_or words k 0) b) (sym q) ∙ f in
         let e = either b in
-        let u = bit_lt waits b in
+        let u = bit_at-lt waits b in
         omega arith
 
 -- ---- the loop that lists device after device
@@ -270,7 +272,7 @@ lowest_next g n k list left d words within f l next = record {
     waits e r w = (l.unlisted w.0 w.1).1 (r.fed w.0 (f.sound w.0 e w.2))
 
 pub listed_more : (g : Rights) (n k : ℕ) (list : List ℕ) (left d : ℕ) (words : List ℕ) (less : ℕ) → n ≤ 64 → k < n → Within g n → Followers g words
-    → ListedTo g n k list left → NextOf words left (Some d) → less < 2 ^ 64 → ((i : ℕ) → bit less i ≡ bit left i - flag (eqb i d)) → ones less + 1 ≡ ones left
+    → ListedTo g n k list left → NextOf words left (Some d) → less < 2 ^ 64 → ((i : ℕ) → bit_at less i ≡ bit_at left i - flag (eqb i d)) → ones less + 1 ≡ ones left
     → ListedTo g n (k + 1) (set list k d) less
 listed_more g n k list left d words less le lt within f l next small without fewer = record {
   long = length-set list k d ∙ l.long;
@@ -289,14 +291,14 @@ listed_more g n k list left d words less le lt within f l next small without few
     grown = take_more_set list k d (let e = l.long in omega arith)
 
     still : (i : ℕ) → Member i less → Member i left
-    still i m = let w = without i in let b = bit_lt left i in omega arith
+    still i m = let w = without i in let b = bit_at-lt left i in omega arith
 
     gone : (i : ℕ) → Member i less → In i (take k list) ⊎ (i ≡ d) → ⊥
     gone i m (inl j) = (l.unlisted i (still i m)).1 j
     gone i m (inr e) =
         let w = without i in
         let o : flag (eqb i d) ≡ 1 = ap flag (eq-eqb i d e) in
-        let b = bit_lt left i in
+        let b = bit_at-lt left i in
         omega arith
 
     stays : (i : ℕ) (b : Bool) → eqb i d ≡ b → Member i left ⊎ In i (take k list) → Member i less ⊎ In i (take (k + 1) (set list k d))
@@ -339,7 +341,7 @@ listed_all g n k list left le e l = record {
 }
   where
     listed : (d : ℕ) → Member d left ⊎ In d (take k list) → In d (take n list)
-    listed d (inl m) = let c = l.count in let z = no_ones left d l.small (omega arith) in absurd (omega arith)
+    listed d (inl m) = let c = l.count in let z = no_ones left d (omega arith) in absurd (omega arith)
     listed d (inr i) = subst (λ j. In d (take j list)) e i
 
 -- a list copied to the front of lent memory

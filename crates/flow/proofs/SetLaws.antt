@@ -1,107 +1,29 @@
 -- The laws of a set of numbers below 64 as one word.
 use Rattle.std.proofs.Common.{◌≡◌, ℕ, zero, suc, ◌+◌, ◌-◌, ◌*◌, ◌/◌, ◌%◌, ◌^◌, ◌<◌, ◌≤◌, min, max, Bool, true, false, not, eqb, ◌⊎◌, sym, refl, ap, ◌∙◌, subst, ap₂, inl, inr, lt_of_lt_of_le, le_of_suc-le-suc, not-suc-le-zero, mod-lt, mul_assoc, add_comm, eq-or-lt_of_le, one-mul, pow-suc, zero-add, zero-mul, div-one, add-one, arith, lit<, pow_mono, shr-shr, eq-eqb, ne_eqb, eqb-true}
-use native.Mathlib.Nat.{div-eq_of_lt, zero-div}
+use Rattle.std.specs.Int.{bit_at, w64}
+use Rattle.std.proofs.lemmas.Nat.{zero_from_ones}
+use Rattle.std.proofs.lemmas.Nat.Bits.{bit_at-lt, bit_at-suc, bit_at-zero, bit_at_above, bit_at_and, bit_at_lowest, bit_at_not, bit_at_or, and_pow, same_from_bits_below}
 use lib.Dec.{eqb-zero-suc, eqb-suc-zero, eqb-suc-suc}
 use lib.Arith.{digits_mod, bin_ind}
 use lib.Pow.{pow-lt}
 use lib.Bits.{bit_and, bit_or, and_step, or_step, and_shr, or_shr, or_shifted, or_shifted_r, and_mask, and_le_l, or_lt}
-use lib.Count.{ones, ones_in, ones_step, ones_cat, count_trailing_zeros, under}
+use lib.Count.{ones, ones_in, ones_step, ones_cat}
 use borrow.Author.Tests.{eqb-false}
 use Rattle.std.proofs.lemmas.Bool.{cases_lt, not-true}
-use Rattle.flow.specs.Sets.{bit, flag, has, meets, set_of, count_of}
-
-pub bit_lt : (w i : ℕ) → bit w i < 2
-unfolding bit
-bit_lt w i = mod-lt (w / 2 ^ i) (lit< tt)
-
--- the lowest digit, and the digits above it
-pub bit_zero : (w : ℕ) → bit w 0 ≡ w % 2
-unfolding bit
-bit_zero w = ap (λ (x : ℕ). x % 2) (div-one w)
-
-pub bit_suc : (w i : ℕ) → bit w (suc i) ≡ bit (w / 2) i
-unfolding bit
-bit_suc w i = ap (λ (x : ℕ). x % 2) (ap (λ (k : ℕ). w / 2 ^ k) (omega arith) ∙ sym (shr-shr w 1 i))
-
-max_lt : (a b : ℕ) → a < 2 → b < 2 → max a b < 2
-max_lt a b h k = omega arith
-
-min_lt : (a b : ℕ) → a < 2 → b < 2 → min a b < 2
-min_lt a b h k = omega arith
-
-pub bit_of_or : (a b i : ℕ) → bit (bit_or a b) i ≡ max (bit a i) (bit b i)
-unfolding bit
-bit_of_or a b i =
-    let x = a / 2 ^ i in
-    let y = b / 2 ^ i in
-    ap (λ (n : ℕ). n % 2) (or_shr a b i ∙ or_step x y) ∙ digits_mod (bit_or (x / 2) (y / 2)) (max_lt (x % 2) (y % 2) (mod-lt x (lit< tt)) (mod-lt y (lit< tt)))
-
-pub bit_of_and : (a b i : ℕ) → bit (bit_and a b) i ≡ min (bit a i) (bit b i)
-unfolding bit
-bit_of_and a b i =
-    let x = a / 2 ^ i in
-    let y = b / 2 ^ i in
-    ap (λ (n : ℕ). n % 2) (and_shr a b i ∙ and_step x y) ∙ digits_mod (bit_and (x / 2) (y / 2)) (min_lt (x % 2) (y % 2) (mod-lt x (lit< tt)) (mod-lt y (lit< tt)))
-
--- two words of k digits with the same digits are equal
-pub bit_ext : (k a b : ℕ) → a < 2 ^ k → b < 2 ^ k → ((i : ℕ) → i < k → bit a i ≡ bit b i) → a ≡ b
-bit_ext zero a b ha hb f = omega arith
-bit_ext (suc k) a b ha hb f =
-    let pa : a < 2 ^ k * 2 = subst (λ (x : ℕ). a < x) (pow-suc 2 k) ha in
-    let pb : b < 2 ^ k * 2 = subst (λ (x : ℕ). b < x) (pow-suc 2 k) hb in
-    let low : a % 2 ≡ b % 2 = sym (bit_zero a) ∙ f 0 (omega arith) ∙ bit_zero b in
-    let high : a / 2 ≡ b / 2 = bit_ext k (a / 2) (b / 2) (omega arith) (omega arith) (λ i h. sym (bit_suc a i) ∙ f (suc i) (omega arith) ∙ bit_suc b i) in
-    omega arith
-
-pub bit_none : (i : ℕ) → bit 0 i ≡ 0
-unfolding bit
-bit_none i = ap (λ (x : ℕ). x % 2) (zero-div (2 ^ i))
+use Rattle.flow.specs.Sets.{flag, has, meets, set_of, count_of}
 
 -- a power of two is the set with one member
-pub bit_pow : (k i : ℕ) → bit (2 ^ k) i ≡ flag (eqb i k)
-bit_pow zero zero = bit_zero 1
-bit_pow zero (suc i) = bit_suc 1 i ∙ bit_none i ∙ ap flag (sym (eqb-suc-zero i))
+pub bit_pow : (k i : ℕ) → bit_at (2 ^ k) i ≡ flag (eqb i k)
+bit_pow zero zero = bit_at_lowest 1
+bit_pow zero (suc i) = bit_at-suc 1 i ∙ bit_at-zero i ∙ ap flag (sym (eqb-suc-zero i))
 bit_pow (suc k) zero =
     let p = pow-suc 2 k in
     let e : 2 ^ suc k % 2 ≡ 0 = omega arith in
-    bit_zero (2 ^ suc k) ∙ e ∙ ap flag (sym (eqb-zero-suc k))
+    bit_at_lowest (2 ^ suc k) ∙ e ∙ ap flag (sym (eqb-zero-suc k))
 bit_pow (suc k) (suc i) =
     let p = pow-suc 2 k in
     let e : 2 ^ suc k / 2 ≡ 2 ^ k = omega arith in
-    bit_suc (2 ^ suc k) i ∙ ap (λ (x : ℕ). bit x i) e ∙ bit_pow k i ∙ ap flag (sym (eqb-suc-suc i k))
-
--- ---- the lowest member
-
-pub trailing_at : (k w : ℕ) → count_trailing_zeros k w < k → bit w (count_trailing_zeros k w) ≡ 1
-unfolding count_trailing_zeros
-trailing_at zero w h = absurd (not-suc-le-zero h)
-trailing_at (suc k) w h = go (trailing_at k (w / 2)) (w % 2) refl h
-  where
-    go : (count_trailing_zeros k (w / 2) < k → bit (w / 2) (count_trailing_zeros k (w / 2)) ≡ 1) → (d : ℕ) → w % 2 ≡ d → under d (count_trailing_zeros k (w / 2)) < suc k → bit w (under d (count_trailing_zeros k (w / 2))) ≡ 1
-    go ih zero e l = bit_suc w (count_trailing_zeros k (w / 2)) ∙ ih (le_of_suc-le-suc l)
-    go ih (suc d) e l = bit_zero w ∙ omega arith
-
-pub trailing_below : (k w i : ℕ) → i < count_trailing_zeros k w → bit w i ≡ 0
-unfolding count_trailing_zeros
-trailing_below zero w i h = absurd (not-suc-le-zero h)
-trailing_below (suc k) w i h = go (trailing_below k (w / 2)) (w % 2) i refl h
-  where
-    go : ((j : ℕ) → j < count_trailing_zeros k (w / 2) → bit (w / 2) j ≡ 0) → (d j : ℕ) → w % 2 ≡ d → j < under d (count_trailing_zeros k (w / 2)) → bit w j ≡ 0
-    go ih zero zero e l = bit_zero w ∙ e
-    go ih zero (suc j) e l = bit_suc w j ∙ ih j (le_of_suc-le-suc l)
-    go ih (suc d) j e l = absurd (not-suc-le-zero l)
-
-pub trailing_lt : (k w : ℕ) → 0 < w → w < 2 ^ k → count_trailing_zeros k w < k
-unfolding count_trailing_zeros
-trailing_lt zero w p h = absurd (omega arith)
-trailing_lt (suc k) w p h = go (trailing_lt k (w / 2)) (w % 2) refl
-  where
-    go : (0 < w / 2 → w / 2 < 2 ^ k → count_trailing_zeros k (w / 2) < k) → (d : ℕ) → w % 2 ≡ d → under d (count_trailing_zeros k (w / 2)) < suc k
-    go rec zero e =
-        let q = pow-suc 2 k in
-        let ih : count_trailing_zeros k (w / 2) < k = rec (omega arith) (omega arith) in
-        omega arith
-    go rec (suc d) e = omega arith
+    bit_at-suc (2 ^ suc k) i ∙ ap (λ (x : ℕ). bit_at x i) e ∙ bit_pow k i ∙ ap flag (sym (eqb-suc-suc i k))
 
 -- ---- the number of members
 
@@ -135,49 +57,15 @@ ones_pow (suc k) =
     let f : 2 ^ suc k / 2 ≡ 2 ^ k = omega arith in
     ones_step (2 ^ suc k) ∙ ap₂ (λ (x y : ℕ). x + ones y) e f ∙ zero-add (ones (2 ^ k)) ∙ ones_pow k
 
--- the test `w & (1 << k)`
-pub and_pow : (k w : ℕ) → bit_and w (2 ^ k) ≡ bit w k * 2 ^ k
-and_pow zero w =
-    let m : bit_and w 1 ≡ w % 2 = and_mask w 1 in
-    let z = bit_zero w in
-    omega arith
-and_pow (suc k) w =
-    let p = pow-suc 2 k in
-    let e : 2 ^ suc k % 2 ≡ 0 = omega arith in
-    let f : 2 ^ suc k / 2 ≡ 2 ^ k = omega arith in
-    let s = and_step w (2 ^ suc k) in
-    let sf : bit_and (w / 2) (2 ^ suc k / 2) ≡ bit (w / 2) k * 2 ^ k = ap (bit_and (w / 2)) f ∙ and_pow k (w / 2) in
-    let l : bit_and w (2 ^ suc k) ≡ bit (w / 2) k * 2 ^ k * 2 = omega arith in
-    l ∙ mul_assoc (bit (w / 2) k) (2 ^ k) 2 ∙ ap₂ (λ (x y : ℕ). x * y) (sym (bit_suc w k)) (sym p)
-
 -- one member more
-pub ones_insert : (k w : ℕ) → bit w k ≡ 0 → ones (bit_or w (2 ^ k)) ≡ ones w + 1
+pub ones_insert : (k w : ℕ) → bit_at w k ≡ 0 → ones (bit_or w (2 ^ k)) ≡ ones w + 1
 unfolding ones ones_in
 ones_insert k w h =
-    let a : bit_and w (2 ^ k) ≡ 0 = and_pow k w ∙ ap (λ (x : ℕ). x * 2 ^ k) h ∙ zero-mul (2 ^ k) in
+    let a : bit_and w (2 ^ k) ≡ 0 = and_pow w k ∙ ap (λ (x : ℕ). x * 2 ^ k) h ∙ zero-mul (2 ^ k) in
     let o : ones (bit_and w (2 ^ k)) ≡ 0 = ap ones a in
     let t = ones_or_and w (2 ^ k) in
     let p = ones_pow k in
     omega arith
-
--- the complement `!w` at k digits
-pub bit_not : (k w i : ℕ) → w < 2 ^ k → i < k → bit (2 ^ k - 1 - w) i ≡ 1 - bit w i
-bit_not zero w i h l = absurd (not-suc-le-zero l)
-bit_not (suc k) w zero h l =
-    let p = pow-suc 2 k in
-    let z = bit_zero w in
-    let y = bit_zero (2 ^ suc k - 1 - w) in
-    omega arith
-bit_not (suc k) w (suc i) h l =
-    let p = pow-suc 2 k in
-    let e : (2 ^ suc k - 1 - w) / 2 ≡ 2 ^ k - 1 - w / 2 = omega arith in
-    bit_suc (2 ^ suc k - 1 - w) i ∙ ap (λ (x : ℕ). bit x i) e ∙ bit_not k (w / 2) i (omega arith) (omega arith)
-    ∙ ap (λ (x : ℕ). 1 - x) (sym (bit_suc w i))
-
--- no digit stands above the k digits of a word
-pub bit_high : (k w i : ℕ) → w < 2 ^ k → k ≤ i → bit w i ≡ 0
-unfolding bit
-bit_high k w i h l = ap (λ (x : ℕ). x % 2) (div-eq_of_lt (lt_of_lt_of_le h (pow_mono l)))
 
 -- ---- the set of the numbers below n that pass a test
 
@@ -214,28 +102,28 @@ flag_lt : (b : Bool) → flag b < 2
 flag_lt true = lit< tt
 flag_lt false = lit< tt
 
-bit_scaled : (b : Bool) (n i : ℕ) → bit (flag b * 2 ^ n) i ≡ min (flag b) (flag (eqb i n))
+bit_scaled : (b : Bool) (n i : ℕ) → bit_at (flag b * 2 ^ n) i ≡ min (flag b) (flag (eqb i n))
 bit_scaled true n i =
     let lt : flag (eqb i n) < 2 = flag_lt (eqb i n) in
     let e : flag (eqb i n) ≡ min 1 (flag (eqb i n)) = omega arith in
-    ap (λ (x : ℕ). bit x i) (one-mul (2 ^ n)) ∙ bit_pow n i ∙ e
+    ap (λ (x : ℕ). bit_at x i) (one-mul (2 ^ n)) ∙ bit_pow n i ∙ e
 bit_scaled false n i =
     let e : 0 ≡ min 0 (flag (eqb i n)) = omega arith in
-    ap (λ (x : ℕ). bit x i) (zero-mul (2 ^ n)) ∙ bit_none i ∙ e
+    ap (λ (x : ℕ). bit_at x i) (zero-mul (2 ^ n)) ∙ bit_at-zero i ∙ e
 
-pub set_of_bit : (p : ℕ → Bool) (n i : ℕ) → i < n → bit (set_of p n) i ≡ flag (p i)
+pub set_of_bit : (p : ℕ → Bool) (n i : ℕ) → i < n → bit_at (set_of p n) i ≡ flag (p i)
 unfolding set_of
 set_of_bit p zero i h = absurd (not-suc-le-zero h)
 set_of_bit p (suc n) i h =
-    ap (λ (x : ℕ). bit x i) (sym (or_shifted (flag (p n)) n (set_of p n) (set_of_lt p n)))
-    ∙ bit_of_or (flag (p n) * 2 ^ n) (set_of p n) i
+    ap (λ (x : ℕ). bit_at x i) (sym (or_shifted (flag (p n)) n (set_of p n) (set_of_lt p n)))
+    ∙ bit_at_or (flag (p n) * 2 ^ n) (set_of p n) i
     ∙ go (set_of_bit p n i) (eq-or-lt_of_le (le_of_suc-le-suc h))
   where
-    go : (i < n → bit (set_of p n) i ≡ flag (p i)) → (i ≡ n) ⊎ (i < n) → max (bit (flag (p n) * 2 ^ n) i) (bit (set_of p n) i) ≡ flag (p i)
+    go : (i < n → bit_at (set_of p n) i ≡ flag (p i)) → (i ≡ n) ⊎ (i < n) → max (bit_at (flag (p n) * 2 ^ n) i) (bit_at (set_of p n) i) ≡ flag (p i)
     go ih (inl e) =
         let x = bit_scaled (p n) n i in
         let t : flag (eqb i n) ≡ 1 = ap flag (eq-eqb i n e) in
-        let hi = bit_high n (set_of p n) i (set_of_lt p n) (omega arith) in
+        let hi = bit_at_above (set_of p n) n i (set_of_lt p n) (omega arith) in
         let l = flag_lt (p n) in
         let same : flag (p i) ≡ flag (p n) = ap (λ (k : ℕ). flag (p k)) e in
         omega arith
@@ -256,7 +144,7 @@ set_of_ones p (suc n) = ones_cat n (flag (p n)) (set_of p n) (set_of_lt p n) ∙
 
 -- every word of n digits is the set of its members
 pub set_of_has : (n w : ℕ) → w < 2 ^ n → set_of (has w) n ≡ w
-set_of_has n w h = bit_ext n (set_of (has w) n) w (set_of_lt (has w) n) h (λ i l. set_of_bit (has w) n i l ∙ flag_has (bit w i) (bit_lt w i))
+set_of_has n w h = same_from_bits_below n (set_of (has w) n) w (set_of_lt (has w) n) h (λ i l. set_of_bit (has w) n i l ∙ flag_has (bit_at w i) (bit_at-lt w i))
   where
     flag_has : (d : ℕ) → d < 2 → flag (eqb d 1) ≡ d
     flag_has zero k = refl
@@ -272,117 +160,94 @@ ones_members n w h = ap ones (sym (set_of_has n w h)) ∙ set_of_ones (has w) n
 flag_self : (k : ℕ) → flag (eqb k k) ≡ 1
 flag_self k = ap flag (eq-eqb k k refl)
 
-pub bit_with : (k w i : ℕ) → bit (bit_or w (2 ^ k)) i ≡ max (bit w i) (flag (eqb i k))
-bit_with k w i = bit_of_or w (2 ^ k) i ∙ ap (max (bit w i)) (bit_pow k i)
+pub bit_with : (k w i : ℕ) → bit_at (bit_or w (2 ^ k)) i ≡ max (bit_at w i) (flag (eqb i k))
+bit_with k w i = bit_at_or w (2 ^ k) i ∙ ap (max (bit_at w i)) (bit_pow k i)
 
-pub bit_minus : (w v i : ℕ) → w < 2 ^ 64 → v < 2 ^ 64 → bit (bit_and w (2 ^ 64 - 1 - v)) i ≡ bit w i - bit v i
+pub bit_minus : (w v i : ℕ) → w < 2 ^ 64 → v < 2 ^ 64 → bit_at (bit_and w (2 ^ 64 - 1 - v)) i ≡ bit_at w i - bit_at v i
 bit_minus w v i hw hv = go (cases_lt i 64)
   where
-    go : (i < 64) ⊎ (64 ≤ i) → bit (bit_and w (2 ^ 64 - 1 - v)) i ≡ bit w i - bit v i
+    go : (i < 64) ⊎ (64 ≤ i) → bit_at (bit_and w (2 ^ 64 - 1 - v)) i ≡ bit_at w i - bit_at v i
     go (inl l) =
-        let a = bit_of_and w (2 ^ 64 - 1 - v) i in
-        let n = bit_not 64 v i hv l in
-        let x = bit_lt w i in
-        let y = bit_lt v i in
+        let a = bit_at_and w (2 ^ 64 - 1 - v) i in
+        let n : bit_at (2 ^ 64 - 1 - v) i ≡ 1 - bit_at v i = bit_at_not w64 v i hv l in
+        let x = bit_at-lt w i in
+        let y = bit_at-lt v i in
         omega arith
     go (inr g) =
-        let a = bit_of_and w (2 ^ 64 - 1 - v) i in
-        let z = bit_high 64 w i hw g in
+        let a = bit_at_and w (2 ^ 64 - 1 - v) i in
+        let z = bit_at_above w 64 i hw g in
         omega arith
 
-pub bit_without : (k w i : ℕ) → k < 64 → w < 2 ^ 64 → bit (bit_and w (2 ^ 64 - 1 - 2 ^ k)) i ≡ bit w i - flag (eqb i k)
-bit_without k w i h hw = bit_minus w (2 ^ k) i hw (pow-lt h) ∙ ap (λ (x : ℕ). bit w i - x) (bit_pow k i)
+pub bit_without : (k w i : ℕ) → k < 64 → w < 2 ^ 64 → bit_at (bit_and w (2 ^ 64 - 1 - 2 ^ k)) i ≡ bit_at w i - flag (eqb i k)
+bit_without k w i h hw = bit_minus w (2 ^ k) i hw (pow-lt h) ∙ ap (λ (x : ℕ). bit_at w i - x) (bit_pow k i)
 
 -- a member left out and put back
-pub ones_without : (k w : ℕ) → k < 64 → w < 2 ^ 64 → bit w k ≡ 1 → ones (bit_and w (2 ^ 64 - 1 - 2 ^ k)) + 1 ≡ ones w
+pub ones_without : (k w : ℕ) → k < 64 → w < 2 ^ 64 → bit_at w k ≡ 1 → ones (bit_and w (2 ^ 64 - 1 - 2 ^ k)) + 1 ≡ ones w
 ones_without k w h hw m =
     let v = bit_and w (2 ^ 64 - 1 - 2 ^ k) in
     let l = and_le_l w (2 ^ 64 - 1 - 2 ^ k) in
     let hv : v < 2 ^ 64 = omega arith in
     let at = bit_without k w k h hw in
     let s = flag_self k in
-    let z : bit v k ≡ 0 = omega arith in
-    let same : bit_or v (2 ^ k) ≡ w = bit_ext 64 (bit_or v (2 ^ k)) w (or_lt 64 v (2 ^ k) hv (pow-lt h)) hw (λ i _. back v i (bit_with k v i) (bit_without k w i h hw) (eqb i k) refl) in
+    let z : bit_at v k ≡ 0 = omega arith in
+    let same : bit_or v (2 ^ k) ≡ w = same_from_bits_below 64 (bit_or v (2 ^ k)) w (or_lt 64 v (2 ^ k) hv (pow-lt h)) hw (λ i _. back v i (bit_with k v i) (bit_without k w i h hw) (eqb i k) refl) in
     sym (ones_insert k v z) ∙ ap ones same
   where
-    back : (v i : ℕ) → bit (bit_or v (2 ^ k)) i ≡ max (bit v i) (flag (eqb i k)) → bit v i ≡ bit w i - flag (eqb i k) → (b : Bool) → eqb i k ≡ b → bit (bit_or v (2 ^ k)) i ≡ bit w i
+    back : (v i : ℕ) → bit_at (bit_or v (2 ^ k)) i ≡ max (bit_at v i) (flag (eqb i k)) → bit_at v i ≡ bit_at w i - flag (eqb i k) → (b : Bool) → eqb i k ≡ b → bit_at (bit_or v (2 ^ k)) i ≡ bit_at w i
     back v i a o true t =
         let f : flag (eqb i k) ≡ 1 = ap flag t in
-        let e : bit w i ≡ 1 = ap (bit w) (eqb-true i k t) ∙ m in
+        let e : bit_at w i ≡ 1 = ap (bit_at w) (eqb-true i k t) ∙ m in
         omega arith
     back v i a o false t =
         let f : flag (eqb i k) ≡ 0 = ap flag t in
         omega arith
 
--- the first n numbers
-pub set_of_every : (n : ℕ) → set_of (λ _. true) n + 1 ≡ 2 ^ n
-unfolding set_of
-set_of_every zero = refl
-set_of_every (suc n) =
-    let h = set_of_every n in
-    let p = pow-suc 2 n in
-    omega arith
-
-count_of_every : (n : ℕ) → count_of (λ _. true) n ≡ n
-unfolding count_of
-count_of_every zero = refl
-count_of_every (suc n) = let h = count_of_every n in omega arith
-
-pub ones_every : (n : ℕ) → ones (set_of (λ _. true) n) ≡ n
-ones_every n = set_of_ones (λ _. true) n ∙ count_of_every n
-
-pub set_of_within : (p : ℕ → Bool) (n i : ℕ) → bit (set_of p n) i ≡ 1 → i < n
+pub set_of_within : (p : ℕ → Bool) (n i : ℕ) → bit_at (set_of p n) i ≡ 1 → i < n
 set_of_within p n i m = go (cases_lt i n)
   where
     go : (i < n) ⊎ (n ≤ i) → i < n
     go (inl l) = l
-    go (inr g) = let z = bit_high n (set_of p n) i (set_of_lt p n) g in absurd (omega arith)
+    go (inr g) = let z = bit_at_above (set_of p n) n i (set_of_lt p n) g in absurd (omega arith)
 
 -- a set with a member is not empty, and one that is not empty has a member
-pub empty_has_none : (w i : ℕ) → w ≡ 0 → bit w i ≡ 1 → ⊥
-empty_has_none w i z m = let n : bit w i ≡ 0 = ap (λ (x : ℕ). bit x i) z ∙ bit_none i in omega arith
+pub empty_has_none : (w i : ℕ) → w ≡ 0 → bit_at w i ≡ 1 → ⊥
+empty_has_none w i z m = let n : bit_at w i ≡ 0 = ap (λ (x : ℕ). bit_at x i) z ∙ bit_at-zero i in omega arith
 
-pub no_ones : (w i : ℕ) → w < 2 ^ 64 → ones w ≡ 0 → bit w i ≡ 0
-no_ones w i h z = go (bit w i) refl (cases_lt i 64)
+pub no_ones : (w i : ℕ) → ones w ≡ 0 → bit_at w i ≡ 0
+no_ones w i z = ap (λ (x : ℕ). bit_at x i) (zero_from_ones w z) ∙ bit_at-zero i
+
+pub some_member : (w : ℕ) → 0 < w → (i : ℕ) × (bit_at w i ≡ 1)
+some_member =
+    bin_ind (λ (n : ℕ). 0 < n → (i : ℕ) × (bit_at n i ≡ 1)) (λ h. absurd (omega arith))
+    (λ n ih h. go n ih h (n % 2) refl)
   where
-    go : (d : ℕ) → bit w i ≡ d → (i < 64) ⊎ (64 ≤ i) → bit w i ≡ 0
-    go zero e _ = e
-    go (suc d) e (inr g) = bit_high 64 w i h g
-    go (suc d) e (inl l) =
-        let t = bit_lt w i in
-        let o = ones_without i w l h (omega arith) in
-        absurd (omega arith)
+    go : (n : ℕ) → (0 < n / 2 → (i : ℕ) × (bit_at (n / 2) i ≡ 1)) → 0 < n → (d : ℕ) → n % 2 ≡ d → (i : ℕ) × (bit_at n i ≡ 1)
+    go n ih h zero e = let m = ih (omega arith) in (suc m.0, bit_at-suc n m.0 ∙ m.1)
+    go n ih h (suc d) e = (0, bit_at_lowest n ∙ omega arith)
 
-lt_pow : (n : ℕ) → n < 2 ^ n
-lt_pow zero = lit< tt
-lt_pow (suc n) = let h = lt_pow n in let p = pow-suc 2 n in omega arith
-
-pub some_member : (w : ℕ) → 0 < w → (i : ℕ) × (bit w i ≡ 1)
-some_member w p = (count_trailing_zeros w w, trailing_at w w (trailing_lt w w p (lt_pow w)))
-
-pub bit_choice : (w i : ℕ) → (bit w i ≡ 0) ⊎ (bit w i ≡ 1)
-bit_choice w i = go (bit w i) refl
+pub bit_choice : (w i : ℕ) → (bit_at w i ≡ 0) ⊎ (bit_at w i ≡ 1)
+bit_choice w i = go (bit_at w i) refl
   where
-    go : (d : ℕ) → bit w i ≡ d → (bit w i ≡ 0) ⊎ (bit w i ≡ 1)
+    go : (d : ℕ) → bit_at w i ≡ d → (bit_at w i ≡ 0) ⊎ (bit_at w i ≡ 1)
     go zero e = inl e
-    go (suc d) e = let l = bit_lt w i in inr (omega arith)
+    go (suc d) e = let l = bit_at-lt w i in inr (omega arith)
 
-pub meets_found : (v w : ℕ) → meets v w ≡ true → (i : ℕ) × (bit v i ≡ 1) × (bit w i ≡ 1)
+pub meets_found : (v w : ℕ) → meets v w ≡ true → (i : ℕ) × (bit_at v i ≡ 1) × (bit_at w i ≡ 1)
 meets_found v w t =
     let x = bit_and v w in
     let ne = eqb-false x 0 (not-true (eqb x 0) t) in
     let m = some_member x (omega arith) in
-    let a = bit_of_and v w m.0 in
-    let hv = bit_lt v m.0 in
-    let hw = bit_lt w m.0 in
+    let a = bit_at_and v w m.0 in
+    let hv = bit_at-lt v m.0 in
+    let hw = bit_at-lt w m.0 in
     let e = m.1 in
     (m.0, omega arith, omega arith)
 
-pub meets_at : (v w i : ℕ) → bit v i ≡ 1 → bit w i ≡ 1 → meets v w ≡ true
+pub meets_at : (v w i : ℕ) → bit_at v i ≡ 1 → bit_at w i ≡ 1 → meets v w ≡ true
 meets_at v w i mv mw =
-    let a = bit_of_and v w i in
+    let a = bit_at_and v w i in
     ap not (ne_eqb (bit_and v w) 0 (λ z. empty_has_none (bit_and v w) i z (omega arith)))
 
 -- what the test of a member tells
-pub not_member : (w i : ℕ) → eqb (bit w i) 1 ≡ false → bit w i ≡ 0
-not_member w i h = let l = bit_lt w i in let n = eqb-false (bit w i) 1 h in omega arith
+pub not_member : (w i : ℕ) → eqb (bit_at w i) 1 ≡ false → bit_at w i ≡ 0
+not_member w i h = let l = bit_at-lt w i in let n = eqb-false (bit_at w i) 1 h in omega arith

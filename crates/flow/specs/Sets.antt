@@ -1,20 +1,17 @@
 -- A set of numbers below 64 as one word, with number 0 as its lowest bit.
---     bit w i        digit i of w, 0 or 1
 --     Member i w     i is a member of w
 --     has w i        the same, as a test
 --     meets v w      the sets have a member in common
 --     set_of p n     the set of the numbers below n that pass the test p
 --     count_of p n   how many numbers below n pass the test p
-use Rattle.std.specs.Prelude.{◌≡◌, ℕ, zero, suc, ◌+◌, ◌*◌, ◌/◌, ◌%◌, ◌^◌, Bool, true, false, not, ◌==◌, bit_and}
-
-unfoldable pub bit : ℕ → ℕ → ℕ
-bit w i = w / 2 ^ i % 2
+use Rattle.std.specs.Prelude.{◌≡◌, ℕ, zero, suc, ◌+◌, ◌*◌, ◌^◌, Bool, true, false, not, ◌==◌, bit_and}
+use Rattle.std.specs.Int.{bit_at}
 
 abbrev pub Member : ℕ → ℕ → Type 0
-Member i w = bit w i ≡ 1
+Member i w = bit_at w i ≡ 1
 
 abbrev pub has : ℕ → ℕ → Bool
-has w i = bit w i == 1
+has w i = bit_at w i == 1
 
 abbrev pub meets : ℕ → ℕ → Bool
 meets v w = not (bit_and v w == 0)

@@ -1,6 +1,7 @@
 // Sets of devices or points as words: all bit operations stand here.
 ghost use Rattle.std.specs.Prelude.{◌≡◌, ℕ, ◌+◌, ◌-◌, ◌^◌, ◌<◌, ◌≤◌, max, Bool, ◌==◌, bit_or, count_ones};
-ghost use Rattle.flow.specs.Sets.{Member, bit, has, flag, set_of, count_of, meets};
+ghost use Rattle.std.specs.Int.{bit_at};
+ghost use Rattle.flow.specs.Sets.{Member, has, flag, set_of, count_of, meets};
 
 // Whether a number is a member.
 pub(crate) fn member(set: u64, number: usize) -> bool
@@ -14,8 +15,8 @@ pub(crate) fn member(set: u64, number: usize) -> bool
 pub(crate) fn with(set: u64, number: usize) -> u64
     requires { number < 64 }
     ensures value { result ≡ bit_or set (2 ^ number) }
-    ensures members { (i : ℕ) → bit result i ≡ max (bit set i) (flag (i == number)) }
-    ensures count { bit set number ≡ 0 → count_ones result ≡ count_ones set + 1 }
+    ensures members { (i : ℕ) → bit_at result i ≡ max (bit_at set i) (flag (i == number)) }
+    ensures count { bit_at set number ≡ 0 → count_ones result ≡ count_ones set + 1 }
 {
     set | (1 << number)
 }
@@ -31,7 +32,7 @@ pub(crate) fn with_if(set: u64, number: usize, passes: bool) -> u64
 // The set without one number.
 pub(crate) fn without(set: u64, number: usize) -> u64
     requires { number < 64 }
-    ensures members { (i : ℕ) → bit result i ≡ bit set i - flag (i == number) }
+    ensures members { (i : ℕ) → bit_at result i ≡ bit_at set i - flag (i == number) }
     ensures count { Member number set → count_ones result + 1 ≡ count_ones set }
 {
     set & !(1 << number)
@@ -39,14 +40,14 @@ pub(crate) fn without(set: u64, number: usize) -> u64
 
 // The members of either set.
 pub(crate) fn union(set: u64, other: u64) -> u64
-    ensures members { (i : ℕ) → bit result i ≡ max (bit set i) (bit other i) }
+    ensures members { (i : ℕ) → bit_at result i ≡ max (bit_at set i) (bit_at other i) }
 {
     set | other
 }
 
 // The members of one set that are not in the other.
 pub(crate) fn minus(set: u64, other: u64) -> u64
-    ensures members { (i : ℕ) → bit result i ≡ bit set i - bit other i }
+    ensures members { (i : ℕ) → bit_at result i ≡ bit_at set i - bit_at other i }
 {
     set & !other
 }
@@ -63,7 +64,7 @@ pub(crate) fn lowest(set: u64) -> usize
     requires { 0 < set }
     ensures bound { result < 64 }
     ensures item { Member result set }
-    ensures least { (i : ℕ) → i < result → bit set i ≡ 0 }
+    ensures least { (i : ℕ) → i < result → bit_at set i ≡ 0 }
 {
     set.trailing_zeros() as usize
 }

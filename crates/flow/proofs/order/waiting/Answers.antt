@@ -1,5 +1,5 @@
 use Rattle.std.proofs.Common.{◌≡◌, ◌+◌, ◌^◌, ◌<◌, sym, ap, ◌∙◌, subst, arith, eqb-true}
-use Rattle.flow.specs.Sets.{bit}
+use Rattle.std.specs.Int.{bit_at}
 use Rattle.flow.proofs.SetLaws.{not_member}
 use Rattle.flow.proofs.OrderLaws.{WaitingTo, waiting_none, waiting_skip, waiting_more, left_small}
 use Rattle.flow.proofs.order.waiting.Goals as goal
@@ -15,8 +15,8 @@ loop-a-preserved c =
     let a = c.loop-a.a in
     elim c.if-member.branch [
       | then-member w ↦
-          waiting_more words left a c.loop-a.waits c.if-member.waits (eqb-true (bit left a) 1 (sym c.member.ensures.value ∙ w.if-member.true))
-          (λ i. ap (λ x. bit x i) w.waits-is ∙ w.union-waits.ensures.members i) c.loop-a.invariant
+          waiting_more words left a c.loop-a.waits c.if-member.waits (eqb-true (bit_at left a) 1 (sym c.member.ensures.value ∙ w.if-member.true))
+          (λ i. ap (λ x. bit_at x i) w.waits-is ∙ w.union-waits.ensures.members i) c.loop-a.invariant
       | else-member w ↦
           subst (WaitingTo words left (a + 1)) (sym w.waits-is)
           (waiting_skip words left a c.loop-a.waits (not_member left a (sym c.member.ensures.value ∙ w.if-member.false)) c.loop-a.invariant)

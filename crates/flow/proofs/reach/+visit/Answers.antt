@@ -1,6 +1,6 @@
 use Rattle.std.proofs.Common.{sym, arith, eqb-true}
+use Rattle.std.specs.Int.{bit_at}
 use lib.Count.{ones-le}
-use Rattle.flow.specs.Sets.{bit}
 use Rattle.flow.proofs.SetLaws.{not_member}
 use Rattle.flow.proofs.ReachLaws.{going_more, going_end, dealt_now, dealt_before}
 use Rattle.flow.proofs.reach.+visit.Goals as goal
@@ -28,7 +28,7 @@ loop-rest-preserved t c =
     let w = c.args.words.now in
     let seen = c.loop-rest.seen in
     let next = c.lowest-next.result in
-    let dealt = dealt_before w seen next (eqb-true (bit seen next) 1 (sym c.if-not-member.ensures.value)) in
+    let dealt = dealt_before w seen next (eqb-true (bit_at seen next) 1 (sym c.if-not-member.ensures.value)) in
     (going_more w c.args.entered c.args.device seen c.loop-rest.rest next seen c.without-rest.result c.loop-rest.invariant.0 c.lowest-next.ensures.item c.without-rest.ensures.members dealt, c.loop-rest.invariant.1, c.without-rest.type_inv)
 
 pub returns : goal.returns

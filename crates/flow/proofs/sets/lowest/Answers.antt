@@ -1,10 +1,10 @@
 use Rattle.std.proofs.Common.{◌^◌, ◌<◌, arith}
-use Rattle.flow.proofs.SetLaws.{trailing_at, trailing_below, trailing_lt}
+use Rattle.std.specs.Int.{w64}
+use Rattle.std.proofs.lemmas.Nat.Bits.{bit_at-trailing_zeros}
 use Rattle.flow.proofs.sets.lowest.Goals as goal
 
 pub returns : goal.returns
 returns c =
-    let w = c.args.set in
-    let h : w < 2 ^ 64 = omega arith in
-    let lt = trailing_lt 64 w c.requires h in
-    record { bound = lt; item = trailing_at 64 w lt; least = trailing_below 64 w }
+    let h : c.args.set < 2 ^ 64 = omega arith in
+    let t = bit_at-trailing_zeros w64 c.args.set c.requires h in
+    record { bound = t.0; item = t.1; least = t.2 }

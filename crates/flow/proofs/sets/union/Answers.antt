@@ -1,5 +1,5 @@
-use Rattle.flow.proofs.SetLaws.{bit_of_or}
 use Rattle.flow.proofs.sets.union.Goals as goal
+use Rattle.std.proofs.lemmas.Nat.Bits.{bit_at_or}
 
 pub returns : goal.returns
-returns c = record { members = bit_of_or c.args.set c.args.other }
+returns c = record { members = bit_at_or c.args.set c.args.other }
