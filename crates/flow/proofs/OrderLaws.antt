@@ -1,19 +1,21 @@
 -- Rings and orders: devices that all wait for one another hold a ring, and an order leaves room for none.
-use Rattle.std.proofs.Common.{◌≡◌, ℕ, zero, suc, ◌+◌, ◌-◌, ◌^◌, ◌<◌, ◌≤◌, max, Bool, true, false, cond, eqb, ◌⊎◌, List, [], ◌∷◌, ◌++◌, length, get_or, take, drop, set, Some, None, sym, refl, ap, ◌∙◌, subst, inl, inr, not-suc-le-zero, arith, length-set, get_or-set_other, get_or-set_same, eq-eqb, eqb-true}
-use Rattle.std.specs.Int.{bit_at}
+use Rattle.std.proofs.Common.{◌≡◌, ℕ, zero, suc, ◌+◌, ◌-◌, ◌^◌, ◌<◌, ◌≤◌, max, Bool, true, false, cond, eqb, ◌⊎◌, List, [], ◌∷◌, ◌++◌, length, get_or, take, drop, Option, Some, None, is_some, not, MatchBool, le_refl, sym, refl, ap, ◌∙◌, subst, inl, inr, not-suc-le-zero, arith, eq-eqb, eqb-true}
+use Rattle.std.specs.Int.{bit_at, from_bool}
 use Rattle.std.proofs.lemmas.Nat.Bits.{bit_at-lt, bit_at-zero, bit_at_above}
 use lib.Bits.{bit_or, or_lt}
 use lib.Count.{ones, ones-le}
 use lib.Pow.{pow-lt}
 use borrow.Author.Tests.{eqb-false}
-use Rattle.std.proofs.lemmas.List.{take_more_set, take-set, take-set-le, take-take, get_or-take, length-take-le, take_at, drop_at}
+use Rattle.std.proofs.lemmas.List.{take_at, drop_at, take-append-le, get_or_append_left, get_or_push, length_push}
 use Rattle.std.proofs.lemmas.Bool.{cases_lt}
-use Rattle.flow.specs.Sets.{flag, Member}
+use Rattle.flow.specs.Sets.{Member}
+use Rattle.arrayvec.specs.ArrayVec.{ArrayVec}
+use Rattle.flow.specs.declared.sets.Device.{Device}
 use Rattle.flow.specs.Flow.{Rights, Source, In, Different, Chain, Ring}
 use Rattle.flow.specs.Followers.{Follows, Followers}
 use Rattle.flow.specs.Order.{Ready, Lowest, FlowOrder}
-use Rattle.flow.specs.Listing.{Waits, NextOf}
-use Rattle.flow.proofs.SetLaws.{bit_with, bit_choice, bit_pow, ones_insert, ones_pow, ones_zero, some_member, no_ones}
+use Rattle.flow.specs.Listing.{Waits, NextOf, Listed}
+use Rattle.flow.proofs.SetLaws.{bit_with, bit_choice, bit_pow, ones_insert, ones_pow, ones_zero, some_member, empty_has_none}
 
 -- ---- from devices that all wait to a ring
 
@@ -92,10 +94,10 @@ hunt_more g left f x xs seen s small ms h new on hs many here trail diff listed 
   where
     back : (i : ℕ) → Member i (bit_or seen (2 ^ s)) → (b : Bool) → eqb i s ≡ b → In i (s ∷ x ∷ xs)
     back i o true e = inl (eqb-true i s e)
-    back i o false e = let a = bit_with s seen i in let z : flag (eqb i s) ≡ 0 = ap flag e in inr (listed i (omega arith))
+    back i o false e = let a = bit_with s seen i in let z : from_bool (eqb i s) ≡ 0 = ap from_bool e in inr (listed i (omega arith))
 
     forth : (i : ℕ) → In i (s ∷ x ∷ xs) → Member i (bit_or seen (2 ^ s))
-    forth i (inl e) = let a = bit_with s seen i in let o : flag (eqb i s) ≡ 1 = ap flag (eq-eqb i s e) in let l = bit_at-lt seen i in omega arith
+    forth i (inl e) = let a = bit_with s seen i in let o : from_bool (eqb i s) ≡ 1 = ap from_bool (eq-eqb i s e) in let l = bit_at-lt seen i in omega arith
     forth i (inr j) = let a = bit_with s seen i in let o = all i j in let l = bit_at-lt (bit_or seen (2 ^ s)) i in omega arith
 
 hunt : (g : Rights) (left : ℕ) → left < 2 ^ 64 → ((b : ℕ) → Member b left → (a : ℕ) × Member a left × Source g a b)
@@ -121,11 +123,11 @@ all_wait g left x hl here waits =
     let one = ones_pow x in
     hunt g left hl waits 63 x [] (2 ^ x) (pow-lt small) (omega arith) here tt ((λ i. i), tt)
     (λ i m. back i m (eqb i x) refl)
-    (λ i j. elim j [ inl e ↦ bit_pow x i ∙ ap flag (eq-eqb i x e) | inr k ↦ absurd k ])
+    (λ i j. elim j [ inl e ↦ bit_pow x i ∙ ap from_bool (eq-eqb i x e) | inr k ↦ absurd k ])
   where
     back : (i : ℕ) → Member i (2 ^ x) → (b : Bool) → eqb i x ≡ b → In i (x ∷ [])
     back i m true e = inl (eqb-true i x e)
-    back i m false e = let p = bit_pow x i in let z : flag (eqb i x) ≡ 0 = ap flag e in absurd (omega arith)
+    back i m false e = let p = bit_pow x i in let z : from_bool (eqb i x) ≡ 0 = ap from_bool e in absurd (omega arith)
 
 -- ---- an order leaves room for no ring
 
@@ -178,36 +180,43 @@ order_ringless g n xs within o r = let h = chain_earlier g n xs within o r.first
 
 -- ---- the loop that gathers the devices that wait
 
--- those that wait for one of the devices below n
-pub record WaitingTo (words : List ℕ) (left n waits : ℕ) : Type 0 where
+-- those that wait for a device that is left, but for the devices of the rest
+pub record WaitingBut (words : List ℕ) (left rest waits : ℕ) : Type 0 where
   pub sound : (b : ℕ) → Member b waits → Waits words left b
-  pub whole : (a b : ℕ) → a < n → Member a left → Follows words a b → Member b waits
+  pub whole : (a b : ℕ) → Member a left → bit_at rest a ≡ 0 → Follows words a b → Member b waits
+  pub among : (a : ℕ) → bit_at rest a ≤ bit_at left a
 
-pub waiting_none : (words : List ℕ) (left : ℕ) → WaitingTo words left 0 0
-waiting_none words left = record { sound = λ b m. let z = bit_at-zero b in absurd (omega arith); whole = λ a b l. absurd (not-suc-le-zero l) }
+pub waiting_none : (words : List ℕ) (left : ℕ) → WaitingBut words left left 0
+waiting_none words left = record {
+  sound = λ b m. let z = bit_at-zero b in absurd (omega arith);
+  whole = λ a b m z. absurd (omega arith);
+  among = λ a. le_refl (bit_at left a);
+}
 
-pub waiting_skip : (words : List ℕ) (left n waits : ℕ) → bit_at left n ≡ 0 → WaitingTo words left n waits → WaitingTo words left (n + 1) waits
-waiting_skip words left n waits z w = record { sound = w.sound; whole = λ a b l m f. go a b l m f (cases_lt a n) }
-  where
-    go : (a b : ℕ) → a < n + 1 → Member a left → Follows words a b → (a < n) ⊎ (n ≤ a) → Member b waits
-    go a b l m f (inl h) = w.whole a b h m f
-    go a b l m f (inr h) = let e : a ≡ n = omega arith in let y : bit_at left a ≡ bit_at left n = ap (bit_at left) e in absurd (omega arith)
-
-pub waiting_more : (words : List ℕ) (left n waits more : ℕ) → Member n left → ((i : ℕ) → bit_at more i ≡ max (bit_at waits i) (bit_at (get_or words n 0) i))
-    → WaitingTo words left n waits → WaitingTo words left (n + 1) more
-waiting_more words left n waits more m either w = record { sound = λ b o. from b o (bit_choice waits b); whole = λ a b l o f. go a b l o f (cases_lt a n) }
+pub waiting_more : (words : List ℕ) (left rest waits d less more : ℕ) → Member d rest → ((i : ℕ) → bit_at less i ≡ bit_at rest i - from_bool (eqb i d))
+    → ((i : ℕ) → bit_at more i ≡ max (bit_at waits i) (bit_at (get_or words d 0) i)) → WaitingBut words left rest waits → WaitingBut words left less more
+waiting_more words left rest waits d less more m fewer either w = record {
+  sound = λ b o. from b o (bit_choice waits b);
+  whole = λ a b l z f. go a b l z f (eqb a d) refl;
+  among = λ a. let x = fewer a in let y = w.among a in omega arith;
+}
   where
     from : (b : ℕ) → Member b more → (bit_at waits b ≡ 0) ⊎ (bit_at waits b ≡ 1) → Waits words left b
-    from b o (inl z) = let e = either b in let l = bit_at-lt (get_or words n 0) b in (n, m, omega arith)
+    from b o (inl z) = let e = either b in let l = w.among d in let u = bit_at-lt left d in (d, omega arith, omega arith)
     from b o (inr y) = w.sound b y
 
-    go : (a b : ℕ) → a < n + 1 → Member a left → Follows words a b → (a < n) ⊎ (n ≤ a) → Member b more
-    go a b l o f (inl h) = let y = w.whole a b h o f in let e = either b in let u = bit_at-lt (get_or words n 0) b in omega arith
-    go a b l o f (inr h) =
-        let q : a ≡ n = omega arith in
-        let y : bit_at (get_or words n 0) b ≡ 1 = ap (λ k. bit_at (get_or words k 0) b) (sym q) ∙ f in
+    go : (a b : ℕ) → Member a left → bit_at less a ≡ 0 → Follows words a b → (t : Bool) → eqb a d ≡ t → Member b more
+    go a b l z f true t =
+        let y : bit_at (get_or words d 0) b ≡ 1 = ap (λ k. bit_at (get_or words k 0) b) (sym (eqb-true a d t)) ∙ f in
         let e = either b in
         let u = bit_at-lt waits b in
+        omega arith
+    go a b l z f false t =
+        let x = fewer a in
+        let o : from_bool (eqb a d) ≡ 0 = ap from_bool t in
+        let y = w.whole a b l (omega arith) f in
+        let e = either b in
+        let u = bit_at-lt (get_or words d 0) b in
         omega arith
 
 -- ---- the loop that lists device after device
@@ -234,21 +243,16 @@ different_push (x ∷ xs) y d n = (
   different_push xs y d.1 (λ i. n (inr i)),
 )
 
--- k of n devices are listed, and the others left
-pub record ListedTo (g : Rights) (n k : ℕ) (list : List ℕ) (left : ℕ) : Type 0 where
-  pub long : length list ≡ 64
-  pub small : left < 2 ^ 64
-  pub count : ones left + k ≡ n
-  pub unlisted : (i : ℕ) → Member i left → (i < n) × (In i (take k list) → ⊥)
-  pub either : (i : ℕ) → i < n → Member i left ⊎ In i (take k list)
-  pub once : Different (take k list)
-  pub next : (j : ℕ) → j < k → Lowest g n (take j list) (get_or list j 0)
+-- some of n devices are listed, and the others left
+pub record ListedTo (g : Rights) (n : ℕ) (list : List ℕ) (left : ℕ) : Type 0 where
+  pub count : ones left + length list ≡ n
+  pub unlisted : (i : ℕ) → Member i left → (i < n) × (In i list → ⊥)
+  pub either : (i : ℕ) → i < n → Member i left ⊎ In i list
+  pub once : Different list
+  pub next : (j : ℕ) → j < length list → Lowest g n (take j list) (get_or list j 0)
 
-pub listed_none : (g : Rights) (n : ℕ) (list : List ℕ) (left : ℕ) → length list ≡ 64 → left < 2 ^ 64 → ones left ≡ n
-    → ((i : ℕ) → (Member i left → i < n) × (i < n → Member i left)) → ListedTo g n 0 list left
-listed_none g n list left long small count all = record {
-  long = long;
-  small = small;
+pub listed_none : (g : Rights) (n left : ℕ) → ones left ≡ n → ((i : ℕ) → (Member i left → i < n) × (i < n → Member i left)) → ListedTo g n [] left
+listed_none g n left count all = record {
   count = omega arith;
   unlisted = λ i m. ((all i).0 m, λ j. j);
   either = λ i h. inl ((all i).1 h);
@@ -257,97 +261,78 @@ listed_none g n list left long small count all = record {
 }
 
 -- a device that is left and does not wait is the next to be listed
-lowest_next : (g : Rights) (n k : ℕ) (list : List ℕ) (left d : ℕ) (words : List ℕ) → Within g n → Followers g words → ListedTo g n k list left
-    → NextOf words left (Some d) → Lowest g n (take k list) d
-lowest_next g n k list left d words within f l next = record {
+lowest_next : (g : Rights) (n : ℕ) (list : List ℕ) (left : ℕ) (d : Device) (words : List ℕ) → Within g n → Followers g words → ListedTo g n list left
+    → NextOf words left (Some d) → Lowest g n list d.number
+lowest_next g n list left d words within f l next = record {
   ready = record {
-    device = (l.unlisted d next.1).0;
-    fresh = (l.unlisted d next.1).1;
-    fed = λ a h. elim (l.either a (within a d h).0) [ inl m ↦ absurd (next.2 (a, m, f.whole a d h)) | inr i ↦ i ];
+    device = (l.unlisted d.number next.0).0;
+    fresh = (l.unlisted d.number next.0).1;
+    fed = λ a h. elim (l.either a (within a d.number h).0) [ inl m ↦ absurd (next.1 (a, m, f.whole a d.number h)) | inr i ↦ i ];
   };
-  least = λ e h r. elim (l.either e r.device) [ inl m ↦ waits e r (next.3 e h m) | inr i ↦ r.fresh i ];
+  least = λ e h r. elim (l.either e r.device) [ inl m ↦ waits e r (next.2 e h m) | inr i ↦ r.fresh i ];
 }
   where
-    waits : (e : ℕ) → Ready g n (take k list) e → Waits words left e → ⊥
+    waits : (e : ℕ) → Ready g n list e → Waits words left e → ⊥
     waits e r w = (l.unlisted w.0 w.1).1 (r.fed w.0 (f.sound w.0 e w.2))
 
-pub listed_more : (g : Rights) (n k : ℕ) (list : List ℕ) (left d : ℕ) (words : List ℕ) (less : ℕ) → n ≤ 64 → k < n → Within g n → Followers g words
-    → ListedTo g n k list left → NextOf words left (Some d) → less < 2 ^ 64 → ((i : ℕ) → bit_at less i ≡ bit_at left i - flag (eqb i d)) → ones less + 1 ≡ ones left
-    → ListedTo g n (k + 1) (set list k d) less
-listed_more g n k list left d words less le lt within f l next small without fewer = record {
-  long = length-set list k d ∙ l.long;
-  small = small;
-  count = let c = l.count in omega arith;
-  unlisted = λ i m. ((l.unlisted i (still i m)).0, λ j. gone i m (in_push i (take k list) d (subst (In i) grown j)));
-  either = λ i h. stays i (eqb i d) refl (l.either i h);
-  once = subst Different (sym grown) (different_push (take k list) d l.once (l.unlisted d next.1).1);
-  next = λ j h. nexts j h (cases_lt j k);
+pub listed_more : (g : Rights) (n : ℕ) (list : List ℕ) (left : ℕ) (d : Device) (words : List ℕ) (less : ℕ) → Within g n → Followers g words
+    → ListedTo g n list left → NextOf words left (Some d) → ((i : ℕ) → bit_at less i ≡ bit_at left i - from_bool (eqb i d.number)) → ones less + 1 ≡ ones left
+    → ListedTo g n (list ++ d.number ∷ []) less
+listed_more g n list left d words less within f l next without fewer = record {
+  count = let c = l.count in omega (arith, length_push list d.number);
+  unlisted = λ i m. ((l.unlisted i (still i m)).0, λ j. gone i m (in_push i list d.number j));
+  either = λ i h. stays i (eqb i d.number) refl (l.either i h);
+  once = different_push list d.number l.once (l.unlisted d.number next.0).1;
+  next = λ j h. nexts j (omega (arith, length_push list d.number)) (cases_lt j (length list));
 }
   where
-    within_list : k < length list
-    within_list = let e = l.long in omega arith
-
-    grown : take (k + 1) (set list k d) ≡ take k list ++ d ∷ []
-    grown = take_more_set list k d (let e = l.long in omega arith)
-
     still : (i : ℕ) → Member i less → Member i left
     still i m = let w = without i in let b = bit_at-lt left i in omega arith
 
-    gone : (i : ℕ) → Member i less → In i (take k list) ⊎ (i ≡ d) → ⊥
+    gone : (i : ℕ) → Member i less → In i list ⊎ (i ≡ d.number) → ⊥
     gone i m (inl j) = (l.unlisted i (still i m)).1 j
     gone i m (inr e) =
         let w = without i in
-        let o : flag (eqb i d) ≡ 1 = ap flag (eq-eqb i d e) in
+        let o : from_bool (eqb i d.number) ≡ 1 = ap from_bool (eq-eqb i d.number e) in
         let b = bit_at-lt left i in
         omega arith
 
-    stays : (i : ℕ) (b : Bool) → eqb i d ≡ b → Member i left ⊎ In i (take k list) → Member i less ⊎ In i (take (k + 1) (set list k d))
-    stays i true e w = inr (subst (In i) (sym grown) (in_new i (take k list) d (eqb-true i d e)))
-    stays i false e (inl m) = let w = without i in let o : flag (eqb i d) ≡ 0 = ap flag e in inl (omega arith)
-    stays i false e (inr j) = inr (subst (In i) (sym grown) (in_old i (take k list) d j))
+    stays : (i : ℕ) (b : Bool) → eqb i d.number ≡ b → Member i left ⊎ In i list → Member i less ⊎ In i (list ++ d.number ∷ [])
+    stays i true e w = inr (in_new i list d.number (eqb-true i d.number e))
+    stays i false e (inl m) = let w = without i in let o : from_bool (eqb i d.number) ≡ 0 = ap from_bool e in inl (omega arith)
+    stays i false e (inr j) = inr (in_old i list d.number j)
 
-    nexts : (j : ℕ) → j < k + 1 → (j < k) ⊎ (k ≤ j) → Lowest g n (take j (set list k d)) (get_or (set list k d) j 0)
-    nexts j h (inl b) =
-        subst (λ xs. Lowest g n xs (get_or (set list k d) j 0)) (sym (take-set-le j list k d (omega arith)))
-        (subst (Lowest g n (take j list)) (sym (get_or-set_other list k j d 0 (λ e. omega arith))) (l.next j b))
+    nexts : (j : ℕ) → j < length list + 1 → (j < length list) ⊎ (length list ≤ j) → Lowest g n (take j (list ++ d.number ∷ [])) (get_or (list ++ d.number ∷ []) j 0)
+    nexts j h (inl b) = rw (take-append-le j list (d.number ∷ []) (omega arith), get_or_append_left list (d.number ∷ []) 0 j b) (l.next j b)
     nexts j h (inr b) =
-        let e : j ≡ k = omega arith in
-        let at : Lowest g n (take k (set list k d)) (get_or (set list k d) k 0) =
-        subst (λ xs. Lowest g n xs (get_or (set list k d) k 0)) (sym (take-set list k d))
-        (subst (Lowest g n (take k list)) (sym (get_or-set_same list k d 0 within_list)) (lowest_next g n k list left d words within f l next)) in
-        subst (λ i. Lowest g n (take i (set list k d)) (get_or (set list k d) i 0)) (sym e) at
+        let e : length list ≡ j = omega arith in
+        rw (take_at list (d.number ∷ []) j e, get_or_push list d.number 0 j e) (lowest_next g n list left d words within f l next)
 
-pub listed_stuck : (g : Rights) (n k : ℕ) (list : List ℕ) (left : ℕ) (words : List ℕ) → k < n → Followers g words → ListedTo g n k list left → NextOf words left None → Ring g
-listed_stuck g n k list left words lt f l waits =
-    let x = some_member left (positive (cases_lt 0 left)) in
-    all_wait g left x.0 l.small x.1 (λ b m. let w = waits b m in (w.0, w.1, f.sound w.0 b w.2))
-  where
-    positive : (0 < left) ⊎ (left ≤ 0) → 0 < left
-    positive (inl h) = h
-    positive (inr z) =
-        let none : left ≡ 0 = omega arith in
-        let e : ones left ≡ 0 = ap ones none ∙ ones_zero in
-        let c = l.count in
-        absurd (omega arith)
+pub listed_stuck : (g : Rights) (left : ℕ) (words : List ℕ) → left < 2 ^ 64 → 0 < left → Followers g words → NextOf words left None → Ring g
+listed_stuck g left words small some f waits =
+    let x = some_member left some in
+    all_wait g left x.0 small x.1 (λ b m. let w = waits b m in (w.0, w.1, f.sound w.0 b w.2))
 
-pub listed_all : (g : Rights) (n k : ℕ) (list : List ℕ) (left : ℕ) → n ≤ 64 → k ≡ n → ListedTo g n k list left → FlowOrder g n (take n list)
-listed_all g n k list left le e l = record {
-  long = length-take-le n list (let h = l.long in omega arith);
-  once = subst (λ i. Different (take i list)) e l.once;
-  all = λ d h. listed d (l.either d h);
-  next = λ j h.
-      subst (λ xs. Lowest g n xs (get_or (take n list) j 0)) (sym (take-take j n list (omega arith)))
-      (subst (Lowest g n (take j list)) (sym (get_or-take n list j 0 h)) (l.next j (omega arith)));
-}
+pub listed_all : (g : Rights) (n : ℕ) (list : List ℕ) (left : ℕ) → left ≡ 0 → ListedTo g n list left → FlowOrder g n list
+listed_all g n list left none l = record { long = long; once = l.once; all = λ d h. listed d (l.either d h); next = λ j h. l.next j (let e = long in omega arith) }
   where
-    listed : (d : ℕ) → Member d left ⊎ In d (take k list) → In d (take n list)
-    listed d (inl m) = let c = l.count in let z = no_ones left d (omega arith) in absurd (omega arith)
-    listed d (inr i) = subst (λ j. In d (take j list)) e i
+    long : length list ≡ n
+    long = let e : ones left ≡ 0 = ap ones none ∙ ones_zero in let c = l.count in omega arith
+
+    listed : (d : ℕ) → Member d left ⊎ In d list → In d list
+    listed d (inl m) = absurd (empty_has_none left d none m)
+    listed d (inr i) = i
+
+-- whether a ring stands, by whether there is a list
+pub ring_seen : (g : Rights) (n : ℕ) (r : Option (ArrayVec ℕ)) (b : Bool) → Within g n → Listed g n r → is_some r ≡ not b → MatchBool b (Ring g) (Ring g → ⊥)
+ring_seen g n None true within l e = l
+ring_seen g n None false within l e = cc
+ring_seen g n (Some list) true within l e = cc
+ring_seen g n (Some list) false within l e = order_ringless g n list.items within l
 
 -- a list copied to the front of lent memory
-pub copied : (n m : ℕ) (list memory part : List ℕ) → m ≡ n → part ≡ take m list → n ≤ length list
-    → (take n (part ++ drop m memory) ≡ take n list) × (drop n (part ++ drop m memory) ≡ drop n memory)
-copied n m list memory part e p h =
-    let q : part ≡ take n list = p ∙ ap (λ i. take i list) e in
-    let long : length part ≡ n = ap length q ∙ length-take-le n list h in
-    (take_at part (drop m memory) n long ∙ q, drop_at part (drop m memory) n long ∙ ap (λ i. drop i memory) e)
+pub copied : (n : ℕ) (list memory part : List ℕ) → length list ≡ n → part ≡ list
+    → (take n (part ++ drop n memory) ≡ list) × (drop n (part ++ drop n memory) ≡ drop n memory)
+copied n list memory part long p =
+    let h : length part ≡ n = ap length p ∙ long in
+    (take_at part (drop n memory) n h ∙ p, drop_at part (drop n memory) n h)

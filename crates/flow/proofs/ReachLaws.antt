@@ -1,9 +1,9 @@
 -- A visit on its way, and what it comes to.
 use Rattle.std.proofs.Common.{◌≡◌, ℕ, ◌+◌, ◌-◌, ◌≤◌, max, Bool, true, false, eqb, ◌⊎◌, List, get_or, sym, refl, ap, ◌∙◌, subst, inl, inr, le_refl, arith, eq-eqb, eqb-true}
-use Rattle.std.specs.Int.{bit_at}
+use Rattle.std.specs.Int.{bit_at, from_bool}
 use Rattle.std.proofs.lemmas.Nat.Bits.{bit_at-lt, bit_at-zero}
 use lib.Count.{ones}
-use Rattle.flow.specs.Sets.{flag, Member}
+use Rattle.flow.specs.Sets.{Member}
 use Rattle.flow.specs.Flow.{Rights, Source, Path, step, further}
 use Rattle.flow.specs.Followers.{Follows, Followers}
 use Rattle.flow.specs.Visit.{Visited}
@@ -35,14 +35,14 @@ dealt_before words seen n m = record {
   reached = λ i s z. absurd (omega arith);
 }
 
-pub dealt_now : (words : List ℕ) (seen next entered after : ℕ) → bit_at seen next ≡ 0 → ((i : ℕ) → bit_at entered i ≡ max (bit_at seen i) (flag (eqb i next)))
+pub dealt_now : (words : List ℕ) (seen next entered after : ℕ) → bit_at seen next ≡ 0 → ((i : ℕ) → bit_at entered i ≡ max (bit_at seen i) (from_bool (eqb i next)))
     → ones entered ≡ ones seen + 1 → Visited words entered next after → Dealt words seen next after
 dealt_now words seen n e after fresh with-next more v = record {
   keeps = λ i. let a = with-next i in let b = v.keeps i in omega arith;
   grows = let a = v.grows in omega arith;
   enters =
       let a = with-next n in
-      let f : flag (eqb n n) ≡ 1 = ap flag (eq-eqb n n refl) in
+      let f : from_bool (eqb n n) ≡ 1 = ap from_bool (eq-eqb n n refl) in
       let b = v.keeps n in
       let c = bit_at-lt after n in
       omega arith;
@@ -51,7 +51,7 @@ dealt_now words seen n e after fresh with-next more v = record {
 }
   where
     not_entered : (i : ℕ) → bit_at seen i ≡ 0 → eqb i n ≡ false → bit_at e i ≡ 0
-    not_entered i z t = let a = with-next i in let f : flag (eqb i n) ≡ 0 = ap flag t in omega arith
+    not_entered i z t = let a = with-next i in let f : from_bool (eqb i n) ≡ 0 = ap from_bool t in omega arith
 
     closes : (i j : ℕ) → Member i after → bit_at seen i ≡ 0 → Follows words i j → (b : Bool) → eqb i n ≡ b → Member j after
     closes i j s z f true t = v.follows j (subst (λ k. Follows words k j) (eqb-true i n t) f)
@@ -67,7 +67,7 @@ front f i (step g) = further (step f) g
 front f i (further p g) = further (front f _ p) g
 
 pub going_more : (words : List ℕ) (e d seen rest n after left : ℕ) → Going words e d seen rest → Member n rest
-    → ((j : ℕ) → bit_at left j ≡ bit_at rest j - flag (eqb j n)) → Dealt words seen n after → Going words e d after left
+    → ((j : ℕ) → bit_at left j ≡ bit_at rest j - from_bool (eqb j n)) → Dealt words seen n after → Going words e d after left
 going_more words e d seen rest n after left go m less v = record {
   keeps = λ i. let a = go.keeps i in let b = v.keeps i in omega arith;
   grows = let a = go.grows in let b = v.grows in omega arith;
@@ -100,7 +100,7 @@ going_more words e d seen rest n after left go m less v = record {
     pends j false t =
         let a = go.pending j in
         let b = less j in
-        let f : flag (eqb j n) ≡ 0 = ap flag t in
+        let f : from_bool (eqb j n) ≡ 0 = ap from_bool t in
         let k = v.keeps j in
         omega arith
 

@@ -1,6 +1,6 @@
 -- The laws of a set of numbers below 64 as one word.
-use Rattle.std.proofs.Common.{◌≡◌, ℕ, zero, suc, ◌+◌, ◌-◌, ◌*◌, ◌/◌, ◌%◌, ◌^◌, ◌<◌, ◌≤◌, min, max, Bool, true, false, not, eqb, ◌⊎◌, sym, refl, ap, ◌∙◌, subst, ap₂, inl, inr, lt_of_lt_of_le, le_of_suc-le-suc, not-suc-le-zero, mod-lt, mul_assoc, add_comm, eq-or-lt_of_le, one-mul, pow-suc, zero-add, zero-mul, div-one, add-one, arith, lit<, pow_mono, shr-shr, eq-eqb, ne_eqb, eqb-true}
-use Rattle.std.specs.Int.{bit_at, w64}
+use Rattle.std.proofs.Common.{◌≡◌, ℕ, zero, suc, ◌+◌, ◌-◌, ◌*◌, ◌/◌, ◌%◌, ◌^◌, ◌<◌, ◌≤◌, min, max, Bool, true, false, not, eqb, ◌⊎◌, sym, refl, ap, ◌∙◌, subst, ap₂, inl, inr, lt_of_lt_of_le, le_of_suc-le-suc, not-suc-le-zero, mod-lt, mod-eq_of_lt, mul-le-mul_right, mul_assoc, add_comm, eq-or-lt_of_le, one-mul, pow-suc, zero-add, zero-mul, div-one, add-one, arith, lit<, pow_mono, shr-shr, eq-eqb, ne_eqb, eqb-true}
+use Rattle.std.specs.Int.{bit_at, from_bool, w64}
 use Rattle.std.proofs.lemmas.Nat.{zero_from_ones}
 use Rattle.std.proofs.lemmas.Nat.Bits.{bit_at-lt, bit_at-suc, bit_at-zero, bit_at_above, bit_at_and, bit_at_lowest, bit_at_not, bit_at_or, and_pow, same_from_bits_below}
 use lib.Dec.{eqb-zero-suc, eqb-suc-zero, eqb-suc-suc}
@@ -10,20 +10,20 @@ use lib.Bits.{bit_and, bit_or, and_step, or_step, and_shr, or_shr, or_shifted, o
 use lib.Count.{ones, ones_in, ones_step, ones_cat}
 use borrow.Author.Tests.{eqb-false}
 use Rattle.std.proofs.lemmas.Bool.{cases_lt, not-true}
-use Rattle.flow.specs.Sets.{flag, has, meets, set_of, count_of}
+use Rattle.flow.specs.Sets.{has, meets, set_of, count_of}
 
 -- a power of two is the set with one member
-pub bit_pow : (k i : ℕ) → bit_at (2 ^ k) i ≡ flag (eqb i k)
+pub bit_pow : (k i : ℕ) → bit_at (2 ^ k) i ≡ from_bool (eqb i k)
 bit_pow zero zero = bit_at_lowest 1
-bit_pow zero (suc i) = bit_at-suc 1 i ∙ bit_at-zero i ∙ ap flag (sym (eqb-suc-zero i))
+bit_pow zero (suc i) = bit_at-suc 1 i ∙ bit_at-zero i ∙ ap from_bool (sym (eqb-suc-zero i))
 bit_pow (suc k) zero =
     let p = pow-suc 2 k in
     let e : 2 ^ suc k % 2 ≡ 0 = omega arith in
-    bit_at_lowest (2 ^ suc k) ∙ e ∙ ap flag (sym (eqb-zero-suc k))
+    bit_at_lowest (2 ^ suc k) ∙ e ∙ ap from_bool (sym (eqb-zero-suc k))
 bit_pow (suc k) (suc i) =
     let p = pow-suc 2 k in
     let e : 2 ^ suc k / 2 ≡ 2 ^ k = omega arith in
-    bit_at-suc (2 ^ suc k) i ∙ ap (λ (x : ℕ). bit_at x i) e ∙ bit_pow k i ∙ ap flag (sym (eqb-suc-suc i k))
+    bit_at-suc (2 ^ suc k) i ∙ ap (λ (x : ℕ). bit_at x i) e ∙ bit_pow k i ∙ ap from_bool (sym (eqb-suc-suc i k))
 
 -- ---- the number of members
 
@@ -74,7 +74,7 @@ unfolding set_of
 set_of_lt p zero = lit< tt
 set_of_lt p (suc n) = go (set_of_lt p n) (p n)
   where
-    go : set_of p n < 2 ^ n → (b : Bool) → flag b * 2 ^ n + set_of p n < 2 ^ suc n
+    go : set_of p n < 2 ^ n → (b : Bool) → from_bool b * 2 ^ n + set_of p n < 2 ^ suc n
     go h true = let q = pow-suc 2 n in omega arith
     go h false = let q = pow-suc 2 n in omega arith
 
@@ -82,63 +82,60 @@ pub set_of_none : (p : ℕ → Bool) → set_of p 0 ≡ 0
 unfolding set_of
 set_of_none p = refl
 
-pub set_of_step : (p : ℕ → Bool) (n : ℕ) → set_of p (n + 1) ≡ flag (p n) * 2 ^ n + set_of p n
+pub set_of_step : (p : ℕ → Bool) (n : ℕ) → set_of p (n + 1) ≡ from_bool (p n) * 2 ^ n + set_of p n
 unfolding set_of
 set_of_step p n = ap (set_of p) (add-one n)
 
--- the next number joins
-pub set_of_push : (p : ℕ → Bool) (n : ℕ) → p n ≡ true → bit_or (set_of p n) (2 ^ n) ≡ set_of p (n + 1)
-set_of_push p n t =
-    ap (bit_or (set_of p n)) (sym (one-mul (2 ^ n))) ∙ or_shifted_r 1 n (set_of p n) (set_of_lt p n)
-    ∙ ap (λ (b : Bool). flag b * 2 ^ n + set_of p n) (sym t) ∙ sym (set_of_step p n)
-
--- or is left out
-pub set_of_skip : (p : ℕ → Bool) (n : ℕ) → p n ≡ false → set_of p n ≡ set_of p (n + 1)
-set_of_skip p n t =
-    let e : 0 * 2 ^ n + set_of p n ≡ set_of p n = omega arith in
-    sym e ∙ ap (λ (b : Bool). flag b * 2 ^ n + set_of p n) (sym t) ∙ sym (set_of_step p n)
-
-flag_lt : (b : Bool) → flag b < 2
+flag_lt : (b : Bool) → from_bool b < 2
 flag_lt true = lit< tt
 flag_lt false = lit< tt
 
-bit_scaled : (b : Bool) (n i : ℕ) → bit_at (flag b * 2 ^ n) i ≡ min (flag b) (flag (eqb i n))
+-- the next number joins if it passes
+pub set_of_more : (p : ℕ → Bool) (n digit w : ℕ) → n < 64 → digit ≡ from_bool (p n) → w ≡ set_of p n → bit_or w (digit * 2 ^ n % 2 ^ 64) ≡ set_of p (n + 1)
+set_of_more p n digit w h d e =
+    let l = flag_lt (p n) in
+    let at_most : digit ≤ 1 = omega arith in
+    let small : digit * 2 ^ n < 2 ^ 64 = omega (arith, mul-le-mul_right (2 ^ n) at_most, pow-lt h) in
+    ap₂ bit_or e (mod-eq_of_lt small) ∙ or_shifted_r digit n (set_of p n) (set_of_lt p n)
+    ∙ ap (λ (x : ℕ). x * 2 ^ n + set_of p n) d ∙ sym (set_of_step p n)
+
+bit_scaled : (b : Bool) (n i : ℕ) → bit_at (from_bool b * 2 ^ n) i ≡ min (from_bool b) (from_bool (eqb i n))
 bit_scaled true n i =
-    let lt : flag (eqb i n) < 2 = flag_lt (eqb i n) in
-    let e : flag (eqb i n) ≡ min 1 (flag (eqb i n)) = omega arith in
+    let lt : from_bool (eqb i n) < 2 = flag_lt (eqb i n) in
+    let e : from_bool (eqb i n) ≡ min 1 (from_bool (eqb i n)) = omega arith in
     ap (λ (x : ℕ). bit_at x i) (one-mul (2 ^ n)) ∙ bit_pow n i ∙ e
 bit_scaled false n i =
-    let e : 0 ≡ min 0 (flag (eqb i n)) = omega arith in
+    let e : 0 ≡ min 0 (from_bool (eqb i n)) = omega arith in
     ap (λ (x : ℕ). bit_at x i) (zero-mul (2 ^ n)) ∙ bit_at-zero i ∙ e
 
-pub set_of_bit : (p : ℕ → Bool) (n i : ℕ) → i < n → bit_at (set_of p n) i ≡ flag (p i)
+pub set_of_bit : (p : ℕ → Bool) (n i : ℕ) → i < n → bit_at (set_of p n) i ≡ from_bool (p i)
 unfolding set_of
 set_of_bit p zero i h = absurd (not-suc-le-zero h)
 set_of_bit p (suc n) i h =
-    ap (λ (x : ℕ). bit_at x i) (sym (or_shifted (flag (p n)) n (set_of p n) (set_of_lt p n)))
-    ∙ bit_at_or (flag (p n) * 2 ^ n) (set_of p n) i
+    ap (λ (x : ℕ). bit_at x i) (sym (or_shifted (from_bool (p n)) n (set_of p n) (set_of_lt p n)))
+    ∙ bit_at_or (from_bool (p n) * 2 ^ n) (set_of p n) i
     ∙ go (set_of_bit p n i) (eq-or-lt_of_le (le_of_suc-le-suc h))
   where
-    go : (i < n → bit_at (set_of p n) i ≡ flag (p i)) → (i ≡ n) ⊎ (i < n) → max (bit_at (flag (p n) * 2 ^ n) i) (bit_at (set_of p n) i) ≡ flag (p i)
+    go : (i < n → bit_at (set_of p n) i ≡ from_bool (p i)) → (i ≡ n) ⊎ (i < n) → max (bit_at (from_bool (p n) * 2 ^ n) i) (bit_at (set_of p n) i) ≡ from_bool (p i)
     go ih (inl e) =
         let x = bit_scaled (p n) n i in
-        let t : flag (eqb i n) ≡ 1 = ap flag (eq-eqb i n e) in
+        let t : from_bool (eqb i n) ≡ 1 = ap from_bool (eq-eqb i n e) in
         let hi = bit_at_above (set_of p n) n i (set_of_lt p n) (omega arith) in
         let l = flag_lt (p n) in
-        let same : flag (p i) ≡ flag (p n) = ap (λ (k : ℕ). flag (p k)) e in
+        let same : from_bool (p i) ≡ from_bool (p n) = ap (λ (k : ℕ). from_bool (p k)) e in
         omega arith
     go ih (inr l) =
         let x = bit_scaled (p n) n i in
-        let t : flag (eqb i n) ≡ 0 = ap flag (ne_eqb i n (λ e. omega arith)) in
+        let t : from_bool (eqb i n) ≡ 0 = ap from_bool (ne_eqb i n (λ e. omega arith)) in
         let y = ih l in
         omega arith
 
 pub set_of_ones : (p : ℕ → Bool) (n : ℕ) → ones (set_of p n) ≡ count_of p n
 unfolding set_of count_of ones ones_in
 set_of_ones p zero = refl
-set_of_ones p (suc n) = ones_cat n (flag (p n)) (set_of p n) (set_of_lt p n) ∙ ap₂ (λ (x y : ℕ). x + y) (one (p n)) (set_of_ones p n)
+set_of_ones p (suc n) = ones_cat n (from_bool (p n)) (set_of p n) (set_of_lt p n) ∙ ap₂ (λ (x y : ℕ). x + y) (one (p n)) (set_of_ones p n)
   where
-    one : (b : Bool) → ones (flag b) ≡ flag b
+    one : (b : Bool) → ones (from_bool b) ≡ from_bool b
     one true = refl
     one false = refl
 
@@ -146,7 +143,7 @@ set_of_ones p (suc n) = ones_cat n (flag (p n)) (set_of p n) (set_of_lt p n) ∙
 pub set_of_has : (n w : ℕ) → w < 2 ^ n → set_of (has w) n ≡ w
 set_of_has n w h = same_from_bits_below n (set_of (has w) n) w (set_of_lt (has w) n) h (λ i l. set_of_bit (has w) n i l ∙ flag_has (bit_at w i) (bit_at-lt w i))
   where
-    flag_has : (d : ℕ) → d < 2 → flag (eqb d 1) ≡ d
+    flag_has : (d : ℕ) → d < 2 → from_bool (eqb d 1) ≡ d
     flag_has zero k = refl
     flag_has (suc zero) k = refl
     flag_has (suc (suc d)) k = absurd (omega arith)
@@ -157,10 +154,10 @@ ones_members n w h = ap ones (sym (set_of_has n w h)) ∙ set_of_ones (has w) n
 
 -- ---- sets made from others, member by member
 
-flag_self : (k : ℕ) → flag (eqb k k) ≡ 1
-flag_self k = ap flag (eq-eqb k k refl)
+flag_self : (k : ℕ) → from_bool (eqb k k) ≡ 1
+flag_self k = ap from_bool (eq-eqb k k refl)
 
-pub bit_with : (k w i : ℕ) → bit_at (bit_or w (2 ^ k)) i ≡ max (bit_at w i) (flag (eqb i k))
+pub bit_with : (k w i : ℕ) → bit_at (bit_or w (2 ^ k)) i ≡ max (bit_at w i) (from_bool (eqb i k))
 bit_with k w i = bit_at_or w (2 ^ k) i ∙ ap (max (bit_at w i)) (bit_pow k i)
 
 pub bit_minus : (w v i : ℕ) → w < 2 ^ 64 → v < 2 ^ 64 → bit_at (bit_and w (2 ^ 64 - 1 - v)) i ≡ bit_at w i - bit_at v i
@@ -178,7 +175,7 @@ bit_minus w v i hw hv = go (cases_lt i 64)
         let z = bit_at_above w 64 i hw g in
         omega arith
 
-pub bit_without : (k w i : ℕ) → k < 64 → w < 2 ^ 64 → bit_at (bit_and w (2 ^ 64 - 1 - 2 ^ k)) i ≡ bit_at w i - flag (eqb i k)
+pub bit_without : (k w i : ℕ) → k < 64 → w < 2 ^ 64 → bit_at (bit_and w (2 ^ 64 - 1 - 2 ^ k)) i ≡ bit_at w i - from_bool (eqb i k)
 bit_without k w i h hw = bit_minus w (2 ^ k) i hw (pow-lt h) ∙ ap (λ (x : ℕ). bit_at w i - x) (bit_pow k i)
 
 -- a member left out and put back
@@ -193,13 +190,13 @@ ones_without k w h hw m =
     let same : bit_or v (2 ^ k) ≡ w = same_from_bits_below 64 (bit_or v (2 ^ k)) w (or_lt 64 v (2 ^ k) hv (pow-lt h)) hw (λ i _. back v i (bit_with k v i) (bit_without k w i h hw) (eqb i k) refl) in
     sym (ones_insert k v z) ∙ ap ones same
   where
-    back : (v i : ℕ) → bit_at (bit_or v (2 ^ k)) i ≡ max (bit_at v i) (flag (eqb i k)) → bit_at v i ≡ bit_at w i - flag (eqb i k) → (b : Bool) → eqb i k ≡ b → bit_at (bit_or v (2 ^ k)) i ≡ bit_at w i
+    back : (v i : ℕ) → bit_at (bit_or v (2 ^ k)) i ≡ max (bit_at v i) (from_bool (eqb i k)) → bit_at v i ≡ bit_at w i - from_bool (eqb i k) → (b : Bool) → eqb i k ≡ b → bit_at (bit_or v (2 ^ k)) i ≡ bit_at w i
     back v i a o true t =
-        let f : flag (eqb i k) ≡ 1 = ap flag t in
+        let f : from_bool (eqb i k) ≡ 1 = ap from_bool t in
         let e : bit_at w i ≡ 1 = ap (bit_at w) (eqb-true i k t) ∙ m in
         omega arith
     back v i a o false t =
-        let f : flag (eqb i k) ≡ 0 = ap flag t in
+        let f : from_bool (eqb i k) ≡ 0 = ap from_bool t in
         omega arith
 
 pub set_of_within : (p : ℕ → Bool) (n i : ℕ) → bit_at (set_of p n) i ≡ 1 → i < n

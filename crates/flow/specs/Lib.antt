@@ -2,6 +2,7 @@
 pub mod Sets
 pub mod Flow
 pub mod Touched
+pub mod Tables
 pub mod Followers
 pub mod Visit
 pub mod Reach

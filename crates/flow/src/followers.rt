@@ -1,49 +1,36 @@
 // The follower table: for each device the set of its followers.
-ghost use Rattle.std.specs.Prelude.{◌≡◌, ℕ, ◌<◌, ◌≤◌, length, slice_index};
-ghost use Rattle.flow.specs.Flow.{rights};
+ghost use Rattle.std.specs.Prelude.{◌≡◌, ℕ, ◌<◌, ◌≤◌, slice_index};
 ghost use Rattle.flow.specs.Followers.{Followers, FollowerTable};
 ghost use Rattle.flow.specs.Sets.{set_of};
-ghost use Rattle.mesh.specs.Table.{rows_of};
+ghost use Rattle.flow.specs.Tables.{table_rights};
 ghost use Rattle.flow.specs.Touched.{feeds};
 
-use super::flow::Flow;
-use super::sets::{meet, with_if};
+use super::sets::set_where;
+use super::table::Table;
+use super::touched::Touched;
 use mesh::refusal::Refusal;
 use mesh::row::Row;
 use mesh::shape::Shape;
+use std::array;
 
-// Whether one device is a source of another.
-fn is_source(flow: &Flow, from: usize, to: usize) -> bool
-    requires { (from < 64) × (to < 64) }
-    ensures value { result ≡ feeds flow.now from to }
+// The follower words of a table.
+pub(crate) fn follower_words<W>(table: &Table<W>) -> [u64; 64]
+    ensures value { Followers (table_rights table.now) result }
+    ensures past { (a : ℕ) → table.now.shape.devices ≤ a → slice_index result a ≡ 0 }
 {
-    from != to && meet(flow.writes[from], flow.reads[to])
-}
-
-// The followers of one device.
-fn follower_word(flow: &Flow, devices: usize, device: usize) -> u64
-    requires { (devices ≤ 64) × (device < 64) }
-    ensures value { result ≡ set_of (feeds flow.now device) devices }
-{
-    let mut word = 0;
-    for f in 0..devices {
-        word = with_if(word, f, is_source(flow, device, f));
-    }
-    word
-}
-
-// The follower words of a table whose rows are all there.
-pub(crate) fn follower_words<W>(shape: Shape, rows: &[Row<W>]) -> [u64; 64]
-    requires { rows_of shape ≤ length rows.now }
-    ensures value { Followers (rights shape rows.now) result }
-    ensures past { (a : ℕ) → shape.devices ≤ a → slice_index result a ≡ 0 }
-{
-    let flow = Flow::of(shape, rows);
-    let mut words = [0; 64];
-    for d in 0..shape.devices() {
-        words[d] = follower_word(&flow, shape.devices(), d);
-    }
-    words
+    let shape = table.shape;
+    let touched: [Touched; 64] = array::from_fn(|d| table.touched(d));
+    array::from_fn(
+        |from: usize| -> u64
+            requires { from < 64 }
+            ensures { result ≡ set_of (feeds touched from) shape.devices }
+        {
+            set_where(
+                shape.devices(),
+                |to| from != to && touched[from].reaches(touched[to]),
+            )
+        },
+    )
 }
 
 // The follower table beside 0; or, where the rows lent are fewer than the table has, 64 zeros beside 4.
@@ -51,8 +38,8 @@ pub(crate) fn follower_words<W>(shape: Shape, rows: &[Row<W>]) -> [u64; 64]
 pub fn followers<W>(shape: Shape, rows: &[Row<W>]) -> ([u64; 64], u8)
     ensures value { FollowerTable shape rows.now result }
 {
-    if rows.len() < shape.rows() {
-        return ([0; 64], Refusal::ShortMemory.number());
+    match Table::over(shape, rows) {
+        Ok(table) => (follower_words(&table), 0),
+        Err(refusal) => ([0; 64], refusal.number()),
     }
-    (follower_words(shape, rows), 0)
 }

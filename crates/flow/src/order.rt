@@ -1,13 +1,14 @@
 // The devices in flow order, and whether a ring stands in the way.
-ghost use Rattle.std.specs.Prelude.{ℕ, ◌<◌, ◌≤◌, length};
-ghost use Rattle.flow.specs.Flow.{rights};
+ghost use Rattle.std.specs.Prelude.{ℕ};
 ghost use Rattle.flow.specs.Listing.{Waits, NextOf, Listed};
 ghost use Rattle.flow.specs.Order.{RingAnswer, OrderAnswer};
 ghost use Rattle.flow.specs.Sets.{Member};
-ghost use Rattle.mesh.specs.Table.{rows_of};
+ghost use Rattle.flow.specs.Tables.{table_rights};
 
 use super::followers::follower_words;
-use super::sets::{first, lowest, member, minus, union, without};
+use super::sets::{Device, first, lowest, minus, union, without};
+use super::table::Table;
+use arrayvec::ArrayVec;
 use mesh::refusal::Refusal;
 use mesh::row::Row;
 use mesh::shape::Shape;
@@ -18,42 +19,32 @@ fn waiting(words: &[u64; 64], left: u64) -> u64
     ensures whole { (b : ℕ) → Waits words.now left b → Member b result }
 {
     let mut waits = 0;
-    for a in 0..64 {
-        if member(left, a) {
-            waits = union(waits, words[a]);
-        }
+    let mut rest = left;
+    while let Some(device) = lowest(rest) {
+        waits = union(waits, words[device.number]);
+        rest = without(rest, device);
     }
     waits
 }
 
 // The lowest device that is left and waits for none.
-fn next_device(words: &[u64; 64], left: u64) -> Option<usize>
+fn next_device(words: &[u64; 64], left: u64) -> Option<Device>
     ensures value { NextOf words.now left result }
 {
-    let ready = minus(left, waiting(words, left));
-    if ready == 0 {
-        return None;
-    }
-    Some(lowest(ready))
+    lowest(minus(left, waiting(words, left)))
 }
 
-// The devices in flow order at the front of the array, or none where a ring stands.
-fn listing<W>(shape: Shape, rows: &[Row<W>]) -> Option<[u8; 64]>
-    requires { rows_of shape ≤ length rows.now }
-    ensures value { Listed (rights shape rows.now) shape.devices result }
+// The devices in flow order, or none where a ring stands.
+fn listing<W>(table: &Table<W>) -> Option<ArrayVec<u8, 64>>
+    ensures value { Listed (table_rights table.now) table.now.shape.devices result }
 {
-    let words = follower_words(shape, rows);
-    let devices = shape.devices();
-    let mut list = [0; 64];
-    let mut left = first(devices);
-    for k in 0..devices {
-        match next_device(&words, left) {
-            Some(next) => {
-                list[k] = next as u8;
-                left = without(left, next);
-            }
-            None => return None,
-        }
+    let words = follower_words(table);
+    let mut list = ArrayVec::new();
+    let mut left = first(table.shape.devices());
+    while left != 0 {
+        let next = next_device(&words, left)?;
+        left = without(left, next);
+        list.push(next.number as u8);
     }
     Some(list)
 }
@@ -63,13 +54,8 @@ fn listing<W>(shape: Shape, rows: &[Row<W>]) -> Option<[u8; 64]>
 pub fn ring_stands<W>(shape: Shape, rows: &[Row<W>]) -> Result<bool, Refusal>
     ensures cases { RingAnswer shape rows.now result }
 {
-    if rows.len() < shape.rows() {
-        return Err(Refusal::ShortMemory);
-    }
-    match listing(shape, rows) {
-        Some(_) => Ok(false),
-        None => Ok(true),
-    }
+    let table = Table::over(shape, rows)?;
+    Ok(listing(&table).is_none())
 }
 
 // The devices in flow order at the front of the memory, and how many they are: at each position the lowest device
@@ -78,15 +64,12 @@ pub fn ring_stands<W>(shape: Shape, rows: &[Row<W>]) -> Result<bool, Refusal>
 pub fn order<W>(shape: Shape, rows: &[Row<W>], memory: &mut [u8]) -> Result<usize, Refusal>
     ensures cases { OrderAnswer shape rows.now memory.old memory.new result }
 {
+    let table = Table::over(shape, rows)?;
     let devices = shape.devices();
-    if rows.len() < shape.rows() || memory.len() < devices {
+    if memory.len() < devices {
         return Err(Refusal::ShortMemory);
     }
-    match listing(shape, rows) {
-        Some(list) => {
-            memory[0..devices].copy_from_slice(&list[0..devices]);
-            Ok(devices)
-        }
-        None => Err(Refusal::RingStands),
-    }
+    let list = listing(&table).ok_or(Refusal::RingStands)?;
+    memory[..devices].copy_from_slice(&list);
+    Ok(devices)
 }

@@ -1,12 +1,12 @@
 // Which devices the flow of one device comes to.
-ghost use Rattle.std.specs.Prelude.{◌<◌};
 ghost use Rattle.flow.specs.Flow.{Rights};
 ghost use Rattle.flow.specs.Followers.{Followers};
 ghost use Rattle.flow.specs.Reach.{ReachAnswer, Reaches};
 ghost use Rattle.flow.specs.Visit.{Visited};
 
 use super::followers::follower_words;
-use super::sets::{count, lowest, member, with, without};
+use super::sets::{Device, count, lowest, member, with, without};
+use super::table::Table;
 use mesh::refusal::Refusal;
 use mesh::row::Row;
 use mesh::shape::Shape;
@@ -19,14 +19,12 @@ pub struct Reached {
 }
 
 // Enters the followers of a device, and theirs, and so on; no device is entered twice, so the walk ends.
-fn visit(words: &[u64; 64], entered: u64, device: usize) -> u64
-    requires { device < 64 }
-    ensures value { Visited words.now entered device result }
+fn visit(words: &[u64; 64], entered: u64, device: Device) -> u64
+    ensures value { Visited words.now entered device.number result }
 {
     let mut seen = entered;
-    let mut rest = words[device];
-    while rest != 0 {
-        let next = lowest(rest);
+    let mut rest = words[device.number];
+    while let Some(next) = lowest(rest) {
         rest = without(rest, next);
         if !member(seen, next) {
             seen = visit(words, with(seen, next), next);
@@ -36,9 +34,8 @@ fn visit(words: &[u64; 64], entered: u64, device: usize) -> u64
 }
 
 // The devices that the flow of a device comes to, by the follower words.
-fn reached_from(words: &[u64; 64], device: usize) -> Reached
-    requires { device < 64 }
-    ensures value { (g : Rights) → Followers g words.now → Reaches g device result }
+fn reached_from(words: &[u64; 64], device: Device) -> Reached
+    ensures value { (g : Rights) → Followers g words.now → Reaches g device.number result }
 {
     let devices = visit(words, 0, device);
     Reached {
@@ -53,13 +50,11 @@ fn reached_from(words: &[u64; 64], device: usize) -> Reached
 pub fn reach<W>(shape: Shape, rows: &[Row<W>], device: u8) -> Result<Reached, Refusal>
     ensures cases { ReachAnswer shape rows.now device result }
 {
-    if rows.len() < shape.rows() {
-        return Err(Refusal::ShortMemory);
-    }
-    let from = device as usize;
-    if from >= shape.devices() {
+    let table = Table::over(shape, rows)?;
+    let number = usize::from(device);
+    if number >= shape.devices() {
         return Err(Refusal::OutsideTable);
     }
-    let words = follower_words(shape, rows);
-    Ok(reached_from(&words, from))
+    let words = follower_words(&table);
+    Ok(reached_from(&words, Device { number }))
 }

@@ -1,41 +1,36 @@
 // Sets of devices or points as words: all bit operations stand here.
-ghost use Rattle.std.specs.Prelude.{◌≡◌, ℕ, ◌+◌, ◌-◌, ◌^◌, ◌<◌, ◌≤◌, max, Bool, ◌==◌, bit_or, count_ones};
-ghost use Rattle.std.specs.Int.{bit_at};
-ghost use Rattle.flow.specs.Sets.{Member, has, flag, set_of, count_of, meets};
+ghost use Rattle.std.specs.Prelude.{◌≡◌, ℕ, ◌+◌, ◌-◌, ◌<◌, ◌≤◌, max, Bool, ◌==◌, MatchOption, count_ones};
+ghost use Rattle.std.specs.Int.{bit_at, from_bool};
+ghost use Rattle.flow.specs.Sets.{Member, IsLowest, has, set_of, count_of, meets};
 
-// Whether a number is a member.
-pub(crate) fn member(set: u64, number: usize) -> bool
-    requires { number < 64 }
-    ensures value { result ≡ has set number }
-{
-    (set >> number) & 1 == 1
+// A device by its number, which a set may have.
+#[derive(Clone, Copy)]
+pub(crate) struct Device {
+    pub(crate) number: usize,
+    ghost in_word: { number < 64 },
 }
 
-// The set with one number more.
-pub(crate) fn with(set: u64, number: usize) -> u64
-    requires { number < 64 }
-    ensures value { result ≡ bit_or set (2 ^ number) }
-    ensures members { (i : ℕ) → bit_at result i ≡ max (bit_at set i) (flag (i == number)) }
-    ensures count { bit_at set number ≡ 0 → count_ones result ≡ count_ones set + 1 }
+// Whether a device is a member.
+pub(crate) fn member(set: u64, device: Device) -> bool
+    ensures value { result ≡ has set device.number }
 {
-    set | (1 << number)
+    (set >> device.number) & 1 == 1
 }
 
-// The set with one number more if a test passes: the step of a loop that gathers the numbers that pass.
-pub(crate) fn with_if(set: u64, number: usize, passes: bool) -> u64
-    requires { number < 64 }
-    ensures gathers { (p : ℕ → Bool) → set ≡ set_of p number → passes ≡ p number → result ≡ set_of p (number + 1) }
+// The set with one device more.
+pub(crate) fn with(set: u64, device: Device) -> u64
+    ensures members { (i : ℕ) → bit_at result i ≡ max (bit_at set i) (from_bool (i == device.number)) }
+    ensures count { bit_at set device.number ≡ 0 → count_ones result ≡ count_ones set + 1 }
 {
-    if passes { with(set, number) } else { set }
+    set | (1 << device.number)
 }
 
-// The set without one number.
-pub(crate) fn without(set: u64, number: usize) -> u64
-    requires { number < 64 }
-    ensures members { (i : ℕ) → bit_at result i ≡ bit_at set i - flag (i == number) }
-    ensures count { Member number set → count_ones result + 1 ≡ count_ones set }
+// The set without one device.
+pub(crate) fn without(set: u64, device: Device) -> u64
+    ensures members { (i : ℕ) → bit_at result i ≡ bit_at set i - from_bool (i == device.number) }
+    ensures count { Member device.number set → count_ones result + 1 ≡ count_ones set }
 {
-    set & !(1 << number)
+    set & !(1 << device.number)
 }
 
 // The members of either set.
@@ -59,14 +54,16 @@ pub(crate) fn meet(set: u64, other: u64) -> bool
     set & other != 0
 }
 
-// The lowest member.
-pub(crate) fn lowest(set: u64) -> usize
-    requires { 0 < set }
-    ensures bound { result < 64 }
-    ensures item { Member result set }
-    ensures least { (i : ℕ) → i < result → bit_at set i ≡ 0 }
+// The lowest member, or none of the empty set.
+pub(crate) fn lowest(set: u64) -> Option<Device>
+    ensures cases { MatchOption result (set ≡ 0) (λ d. IsLowest set d.number) }
 {
-    set.trailing_zeros() as usize
+    if set == 0 {
+        return None;
+    }
+    Some(Device {
+        number: set.trailing_zeros() as usize,
+    })
 }
 
 // The number of members.
@@ -83,4 +80,18 @@ pub(crate) fn first(n: usize) -> u64
     ensures count { count_ones result ≡ n }
 {
     if n < 64 { (1 << n) - 1 } else { u64::MAX }
+}
+
+// The set of those of the first n numbers that pass a test, which is asked once of each.
+pub(crate) fn set_where<F: Fn(usize) -> bool>(n: usize, test: F) -> u64
+    requires small { n ≤ 64 }
+    requires callable { (i : ℕ) → i < n → F.pre test i }
+    ensures value { (p : ℕ → Bool) → ((i : ℕ) (b : Bool) → i < n → F.post test i b → b ≡ p i)
+        → result ≡ set_of p n }
+{
+    let mut set = 0;
+    for i in 0..n {
+        set |= u64::from(test(i)) << i;
+    }
+    set
 }

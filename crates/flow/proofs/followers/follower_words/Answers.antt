@@ -1,20 +1,20 @@
-use Rattle.std.proofs.Common.{◌≡◌, ◌≤◌, subst, arith}
+use Rattle.std.proofs.Common.{◌≡◌, ℕ, ◌<◌, ◌≤◌, get_or, arith, rules}
+use Rattle.flow.specs.Tables.{table_rights}
+use Rattle.flow.specs.Touched.{TouchesAt, Touches, feeds}
 use Rattle.flow.specs.Sets.{set_of}
-use Rattle.flow.specs.Touched.{feeds}
-use Rattle.flow.proofs.FlowLaws.{FilledTo, filled_none, words_followers, words_past}
+use Rattle.flow.proofs.FlowLaws.{made_each, touches_each, words_followers, words_past}
 use Rattle.flow.proofs.followers.follower_words.Goals as goal
-
-pub loop-d-init : goal.loop-d-init
-loop-d-init g c = filled_none _
 
 pub returns : goal.returns
 returns g c =
-    let s = c.args.shape in
-    let rows = c.args.rows.now in
-    let f = c.of-flow.result in
-    let words = c.loop-d.words in
-    let e : c.loop-d.d ≡ s.devices = omega arith in
+    let s = c.args.table.now.shape in
+    let rows = c.args.table.now.rows.now in
+    let ts = c.from_fn-touched.result in
+    let words = c.from_fn.result in
     let le : s.devices ≤ 64 = omega arith in
-    let filled = subst (λ n. FilledTo (λ a. set_of (feeds f a) s.devices) n words) e c.loop-d.invariant in
-    let t = c.of-flow.ensures.value in
-    record { value = words_followers s rows f words le t filled; past = words_past s rows f words le t filled }
+    let made = c.from_fn-touched.ensures.items in
+    let t = touches_each s rows ts le made.long (λ d h. made_each _ (TouchesAt (table_rights c.args.table.now)) _ 64 (λ i y q l k. search rules) ts made d _ h) in
+    let written = c.from_fn.ensures.items in
+    let at : (a : ℕ) → a < 64 → get_or words a 0 ≡ set_of (feeds ts a) s.devices =
+    λ a h. made_each _ (λ a w. w ≡ set_of (feeds ts a) s.devices) _ 64 (λ i y q l k. search rules) words written a 0 h in
+    record { value = words_followers s rows ts words le t written.long at; past = words_past s rows ts words le t written.long at }

@@ -7,8 +7,8 @@ returns c =
     let v = c.visit-devices.ensures.value in
     record {
       value = λ g f. record {
-        sound = visited_sound g words c.args.device c.visit-devices.result f v;
-        whole = visited_whole g words c.args.device c.visit-devices.result f v;
+        sound = visited_sound g words c.args.device.number c.visit-devices.result f v;
+        whole = visited_whole g words c.args.device.number c.visit-devices.result f v;
         counted = c.count.ensures.value;
       };
     }

@@ -8,11 +8,11 @@ use Rattle.flow.proofs.sets.without.Goals as goal
 
 pub returns : goal.returns
 returns c =
-    let k = c.args.number in
+    let k = c.args.device.number in
     let w = c.args.set in
     let h : w < 2 ^ 64 = omega arith in
-    let e = ap (λ (x : ℕ). bit_and w (2 ^ 64 - 1 - x)) (one_shl k 64 c.requires) in
+    let e = ap (λ (x : ℕ). bit_and w (2 ^ 64 - 1 - x)) (one_shl k 64 c.args.device.in_word) in
     record {
-      members = λ i. ap (λ (x : ℕ). bit_at x i) e ∙ bit_without k w i c.requires h;
-      count = λ m. ap (λ (x : ℕ). ones x + 1) e ∙ ones_without k w c.requires h m;
+      members = λ i. ap (λ (x : ℕ). bit_at x i) e ∙ bit_without k w i c.args.device.in_word h;
+      count = λ m. ap (λ (x : ℕ). ones x + 1) e ∙ ones_without k w c.args.device.in_word h m;
     }
