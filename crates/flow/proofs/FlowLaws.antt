@@ -1,5 +1,5 @@
 -- From the rows to the points that devices read and write, and from these to followers.
-use Rattle.std.proofs.Common.{◌≡◌, ℕ, zero, suc, ◌+◌, ◌*◌, ◌<◌, ◌≤◌, Bool, true, false, cond, not, ◌&&◌, T, eqb, ltb, ◌≢◌, ◌⊎◌, List, [], ◌∷◌, map, length, get_or, get_or-drop, take, drop, sym, refl, ap, ◌∙◌, subst, ap₂, zero-add, inl, inr, le_of_suc-le-suc, not-suc-le-zero, eq-or-lt_of_le, mul-le-mul_right, suc-mul, arith, length-set, get_or-set_other, get_or-set_same, ltb-false, ltb-true, le-ltb, lt-ltb, ne_eqb, eqb-true}
+use Rattle.std.proofs.Common.{◌≡◌, ℕ, zero, suc, ◌+◌, ◌<◌, ◌≤◌, Bool, true, false, cond, not, ◌&&◌, T, eqb, ltb, ◌⊎◌, List, [], ◌∷◌, map, length, get_or, get_or-drop, take, drop, sym, refl, ap, ◌∙◌, subst, ap₂, zero-add, inl, inr, le_of_suc-le-suc, not-suc-le-zero, eq-or-lt_of_le, arith, ltb-false, ltb-true, le-ltb, lt-ltb, ne_eqb}
 use Rattle.std.specs.Int.{bit_at, from_bool}
 use Rattle.std.proofs.lemmas.Nat.Bits.{bit_at-zero, bit_at_above, same_from_bits}
 use borrow.Author.Tests.{eqb-false}
@@ -36,25 +36,22 @@ right_in_part rows first n i x h l e =
 -- ---- an array made by a closure
 
 -- what each call gave, where no call changes the closure
-module _ {F B : Type 0} (g : Mut F (ℕ × Unit {0}) B) (P : ℕ → B → Type 0) (f : F) (m : ℕ) (gives : (i : ℕ) (y : B) (q : F) → i < m → Called g f (i, tt) y q → P i y × (q ≡ f)) (ys : List B) where
-  each_call : (n i : ℕ) (p : F) → i + n ≡ m → p ≡ f → IsFromFnResultFrom g p ys i n → (k : ℕ) (e : B) → i ≤ k → k < m → P k (get_or ys k e)
-  each_call zero i p end same calls k e l u = absurd (omega arith)
-  each_call (suc n) i p end same (q, y, at, call, rest) k e l u =
-      let now = gives i y q (omega arith) (subst (λ x. Called g x (i, tt) y q) same call) in
-      elim (eq-or-lt_of_le l) [
-        | inl s ↦ subst (λ j. P j (get_or ys j e)) s (subst (P i) (sym (at.1 e)) now.0)
-        | inr above ↦ each_call n (i + 1) q (omega arith) now.1 rest k e (omega arith) u
-      ]
+each_call : {F B : Type 0} (g : Mut F (ℕ × Unit {0}) B) (P : ℕ → B → Type 0) (f : F) (ys : List B) (m : ℕ)
+    → ((i : ℕ) (y : B) (q : F) → i < m → Called g f (i, tt) y q → P i y × (q ≡ f))
+    → (n i : ℕ) (p : F) → i + n ≡ m → p ≡ f → IsFromFnResultFrom g p ys i n → (k : ℕ) (e : B) → i ≤ k → k < m → P k (get_or ys k e)
+each_call g P f ys m gives zero i p end same calls k e l u = absurd (omega arith)
+each_call g P f ys m gives (suc n) i p end same (q, y, at, call, rest) k e l u =
+    let now = gives i y q (omega arith) (subst (λ x. Called g x (i, tt) y q) same call) in
+    elim (eq-or-lt_of_le l) [
+      | inl s ↦ subst (λ j. P j (get_or ys j e)) s (subst (P i) (sym (at.1 e)) now.0)
+      | inr above ↦ each_call g P f ys m gives n (i + 1) q (omega arith) now.1 rest k e (omega arith) u
+    ]
 
-  pub made_each : IsFromFnResult g f ys m → (k : ℕ) (e : B) → k < m → P k (get_or ys k e)
-  made_each made k e l = each_call m 0 f (zero-add m) refl made.each k e (omega arith) l
+pub made_each : {F B : Type 0} {g : Mut F (ℕ × Unit {0}) B} {f : F} {ys : List B} {m : ℕ} (P : ℕ → B → Type 0) → IsFromFnResult g f ys m
+    → ((i : ℕ) (y : B) (q : F) → i < m → Called g f (i, tt) y q → P i y × (q ≡ f)) → (k : ℕ) (e : B) → k < m → P k (get_or ys k e)
+made_each {g = g} {f = f} {ys = ys} {m = m} P made gives k e l = each_call g P f ys m gives m 0 f (zero-add m) refl made.each k e (omega arith) l
 
 -- ---- the points of one device
-
-pub device_fits : (d devices points len : ℕ) → d < devices → devices * points ≤ len → d * points + points ≤ len
-device_fits d devices points len h l =
-    let a = mul-le-mul_right points h in
-    omega (arith, suc-mul d points)
 
 -- those at which its right passes a test: none of a device that the table does not have
 module _ {W : Type 0} (test : Right → Bool) (none : test Empty ≡ false) (s : Shape) (rows : List (Row W)) (d : ℕ) where

@@ -1,7 +1,7 @@
 -- Rings and orders: devices that all wait for one another hold a ring, and an order leaves room for none.
-use Rattle.std.proofs.Common.{◌≡◌, ℕ, zero, suc, ◌+◌, ◌-◌, ◌^◌, ◌<◌, ◌≤◌, max, Bool, true, false, cond, eqb, ◌⊎◌, List, [], ◌∷◌, ◌++◌, length, get_or, take, drop, Option, Some, None, is_some, not, MatchBool, le_refl, sym, refl, ap, ◌∙◌, subst, inl, inr, not-suc-le-zero, arith, eq-eqb, eqb-true}
+use Rattle.std.proofs.Common.{◌≡◌, ℕ, zero, suc, ◌+◌, ◌-◌, ◌^◌, ◌<◌, ◌≤◌, max, Bool, true, false, cond, eqb, ◌⊎◌, List, [], ◌∷◌, ◌++◌, length, get_or, take, drop, Option, Some, None, is_some, not, MatchBool, le_refl, sym, refl, ap, ◌∙◌, subst, inl, inr, arith, eq-eqb, eqb-true}
 use Rattle.std.specs.Int.{bit_at, from_bool}
-use Rattle.std.proofs.lemmas.Nat.Bits.{bit_at-lt, bit_at-zero, bit_at_above}
+use Rattle.std.proofs.lemmas.Nat.Bits.{bit_at-zero, bit_at_above}
 use lib.Bits.{bit_or, or_lt}
 use lib.Count.{ones, ones-le}
 use lib.Pow.{pow-lt}
@@ -97,8 +97,8 @@ hunt_more g left f x xs seen s small ms h new on hs many here trail diff listed 
     back i o false e = let a = bit_with s seen i in let z : from_bool (eqb i s) ≡ 0 = ap from_bool e in inr (listed i (omega arith))
 
     forth : (i : ℕ) → In i (s ∷ x ∷ xs) → Member i (bit_or seen (2 ^ s))
-    forth i (inl e) = let a = bit_with s seen i in let o : from_bool (eqb i s) ≡ 1 = ap from_bool (eq-eqb i s e) in let l = bit_at-lt seen i in omega arith
-    forth i (inr j) = let a = bit_with s seen i in let o = all i j in let l = bit_at-lt (bit_or seen (2 ^ s)) i in omega arith
+    forth i (inl e) = let a = bit_with s seen i in let o : from_bool (eqb i s) ≡ 1 = ap from_bool (eq-eqb i s e) in omega arith
+    forth i (inr j) = let a = bit_with s seen i in let o = all i j in omega arith
 
 hunt : (g : Rights) (left : ℕ) → left < 2 ^ 64 → ((b : ℕ) → Member b left → (a : ℕ) × Member a left × Source g a b)
     → (fuel x : ℕ) (xs : List ℕ) (seen : ℕ) → Hunt g left fuel x xs seen
@@ -165,7 +165,6 @@ Within g n = (a b : ℕ) → Source g a b → (a < n) × (b < n)
 earlier : (g : Rights) (n : ℕ) (xs : List ℕ) → Within g n → FlowOrder g n xs → (a b : ℕ) → Source g a b → place a xs < place b xs
 earlier g n xs within o a b h =
     let at = place_found b xs (o.all b (within a b h).1) in
-    let long = o.long in
     place_below a (place b xs) xs ((o.next (place b xs) (omega arith)).ready.fed a (subst (Source g a) (sym at.1) h))
 
 chain_earlier : (g : Rights) (n : ℕ) (xs : List ℕ) → Within g n → FlowOrder g n xs → (a : ℕ) (over : List ℕ) (b : ℕ) → Chain g a over b → place a xs < place b xs
@@ -202,21 +201,19 @@ waiting_more words left rest waits d less more m fewer either w = record {
 }
   where
     from : (b : ℕ) → Member b more → (bit_at waits b ≡ 0) ⊎ (bit_at waits b ≡ 1) → Waits words left b
-    from b o (inl z) = let e = either b in let l = w.among d in let u = bit_at-lt left d in (d, omega arith, omega arith)
+    from b o (inl z) = let e = either b in let l = w.among d in (d, omega arith, omega arith)
     from b o (inr y) = w.sound b y
 
     go : (a b : ℕ) → Member a left → bit_at less a ≡ 0 → Follows words a b → (t : Bool) → eqb a d ≡ t → Member b more
     go a b l z f true t =
         let y : bit_at (get_or words d 0) b ≡ 1 = ap (λ k. bit_at (get_or words k 0) b) (sym (eqb-true a d t)) ∙ f in
         let e = either b in
-        let u = bit_at-lt waits b in
         omega arith
     go a b l z f false t =
         let x = fewer a in
         let o : from_bool (eqb a d) ≡ 0 = ap from_bool t in
         let y = w.whole a b l (omega arith) f in
         let e = either b in
-        let u = bit_at-lt (get_or words d 0) b in
         omega arith
 
 -- ---- the loop that lists device after device
@@ -251,15 +248,6 @@ pub record ListedTo (g : Rights) (n : ℕ) (list : List ℕ) (left : ℕ) : Type
   pub once : Different list
   pub next : (j : ℕ) → j < length list → Lowest g n (take j list) (get_or list j 0)
 
-pub listed_none : (g : Rights) (n left : ℕ) → ones left ≡ n → ((i : ℕ) → (Member i left → i < n) × (i < n → Member i left)) → ListedTo g n [] left
-listed_none g n left count all = record {
-  count = omega arith;
-  unlisted = λ i m. ((all i).0 m, λ j. j);
-  either = λ i h. inl ((all i).1 h);
-  once = tt;
-  next = λ j h. absurd (not-suc-le-zero h);
-}
-
 -- a device that is left and does not wait is the next to be listed
 lowest_next : (g : Rights) (n : ℕ) (list : List ℕ) (left : ℕ) (d : Device) (words : List ℕ) → Within g n → Followers g words → ListedTo g n list left
     → NextOf words left (Some d) → Lowest g n list d.number
@@ -279,7 +267,7 @@ pub listed_more : (g : Rights) (n : ℕ) (list : List ℕ) (left : ℕ) (d : Dev
     → ListedTo g n list left → NextOf words left (Some d) → ((i : ℕ) → bit_at less i ≡ bit_at left i - from_bool (eqb i d.number)) → ones less + 1 ≡ ones left
     → ListedTo g n (list ++ d.number ∷ []) less
 listed_more g n list left d words less within f l next without fewer = record {
-  count = let c = l.count in omega (arith, length_push list d.number);
+  count = omega (arith, length_push list d.number);
   unlisted = λ i m. ((l.unlisted i (still i m)).0, λ j. gone i m (in_push i list d.number j));
   either = λ i h. stays i (eqb i d.number) refl (l.either i h);
   once = different_push list d.number l.once (l.unlisted d.number next.0).1;
@@ -287,14 +275,13 @@ listed_more g n list left d words less within f l next without fewer = record {
 }
   where
     still : (i : ℕ) → Member i less → Member i left
-    still i m = let w = without i in let b = bit_at-lt left i in omega arith
+    still i m = let w = without i in omega arith
 
     gone : (i : ℕ) → Member i less → In i list ⊎ (i ≡ d.number) → ⊥
     gone i m (inl j) = (l.unlisted i (still i m)).1 j
     gone i m (inr e) =
         let w = without i in
         let o : from_bool (eqb i d.number) ≡ 1 = ap from_bool (eq-eqb i d.number e) in
-        let b = bit_at-lt left i in
         omega arith
 
     stays : (i : ℕ) (b : Bool) → eqb i d.number ≡ b → Member i left ⊎ In i list → Member i less ⊎ In i (list ++ d.number ∷ [])
@@ -317,7 +304,7 @@ pub listed_all : (g : Rights) (n : ℕ) (list : List ℕ) (left : ℕ) → left 
 listed_all g n list left none l = record { long = long; once = l.once; all = λ d h. listed d (l.either d h); next = λ j h. l.next j (let e = long in omega arith) }
   where
     long : length list ≡ n
-    long = let e : ones left ≡ 0 = ap ones none ∙ ones_zero in let c = l.count in omega arith
+    long = let e : ones left ≡ 0 = ap ones none ∙ ones_zero in omega arith
 
     listed : (d : ℕ) → Member d left ⊎ In d list → In d list
     listed d (inl m) = absurd (empty_has_none left d none m)

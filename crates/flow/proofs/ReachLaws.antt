@@ -1,7 +1,7 @@
 -- A visit on its way, and what it comes to.
 use Rattle.std.proofs.Common.{◌≡◌, ℕ, ◌+◌, ◌-◌, ◌≤◌, max, Bool, true, false, eqb, ◌⊎◌, List, get_or, sym, refl, ap, ◌∙◌, subst, inl, inr, le_refl, arith, eq-eqb, eqb-true}
 use Rattle.std.specs.Int.{bit_at, from_bool}
-use Rattle.std.proofs.lemmas.Nat.Bits.{bit_at-lt, bit_at-zero}
+use Rattle.std.proofs.lemmas.Nat.Bits.{bit_at-zero}
 use lib.Count.{ones}
 use Rattle.flow.specs.Sets.{Member}
 use Rattle.flow.specs.Flow.{Rights, Source, Path, step, further}
@@ -39,12 +39,11 @@ pub dealt_now : (words : List ℕ) (seen next entered after : ℕ) → bit_at se
     → ones entered ≡ ones seen + 1 → Visited words entered next after → Dealt words seen next after
 dealt_now words seen n e after fresh with-next more v = record {
   keeps = λ i. let a = with-next i in let b = v.keeps i in omega arith;
-  grows = let a = v.grows in omega arith;
+  grows = omega arith;
   enters =
       let a = with-next n in
       let f : from_bool (eqb n n) ≡ 1 = ap from_bool (eq-eqb n n refl) in
       let b = v.keeps n in
-      let c = bit_at-lt after n in
       omega arith;
   closed = λ i j s z f. closes i j s z f (eqb i n) refl;
   reached = λ i s z. reaches i s z (eqb i n) refl;
@@ -70,7 +69,7 @@ pub going_more : (words : List ℕ) (e d seen rest n after left : ℕ) → Going
     → ((j : ℕ) → bit_at left j ≡ bit_at rest j - from_bool (eqb j n)) → Dealt words seen n after → Going words e d after left
 going_more words e d seen rest n after left go m less v = record {
   keeps = λ i. let a = go.keeps i in let b = v.keeps i in omega arith;
-  grows = let a = go.grows in let b = v.grows in omega arith;
+  grows = omega arith;
   closed = λ i j s z f. closes i j s z f (bit_choice seen i);
   reached = λ i s z. reaches i s z (bit_choice seen i);
   pending = λ j. pends j (eqb j n) refl;
@@ -78,11 +77,11 @@ going_more words e d seen rest n after left go m less v = record {
 }
   where
     follows : Follows words d n
-    follows = let a = go.among n in let b = bit_at-lt (get_or words d 0) n in omega arith
+    follows = let a = go.among n in omega arith
 
     closes : (i j : ℕ) → Member i after → bit_at e i ≡ 0 → Follows words i j → (bit_at seen i ≡ 0) ⊎ (bit_at seen i ≡ 1) → Member j after
     closes i j s z f (inl o) = v.closed i j s o f
-    closes i j s z f (inr o) = let k = go.closed i j o z f in let a = v.keeps j in let b = bit_at-lt after j in omega arith
+    closes i j s z f (inr o) = let k = go.closed i j o z f in let a = v.keeps j in omega arith
 
     via : (i : ℕ) → (i ≡ n) ⊎ Path (Follows words) n i → Path (Follows words) d i
     via i (inl q) = subst (Path (Follows words) d) (sym q) (step follows)
@@ -95,7 +94,6 @@ going_more words e d seen rest n after left go m less v = record {
     pends : (j : ℕ) (b : Bool) → eqb j n ≡ b → bit_at (get_or words d 0) j ≤ max (bit_at after j) (bit_at left j)
     pends j true t =
         let o : bit_at after j ≡ 1 = ap (bit_at after) (eqb-true j n t) ∙ v.enters in
-        let l = bit_at-lt (get_or words d 0) j in
         omega arith
     pends j false t =
         let a = go.pending j in
@@ -111,7 +109,6 @@ going_end words e d seen rest none go = record {
   follows = λ j f.
       let p = go.pending j in
       let z : bit_at rest j ≡ 0 = ap (λ w. bit_at w j) none ∙ bit_at-zero j in
-      let l = bit_at-lt seen j in
       omega arith;
   closed = go.closed;
   reached = go.reached;

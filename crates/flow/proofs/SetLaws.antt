@@ -1,12 +1,11 @@
 -- The laws of a set of numbers below 64 as one word.
-use Rattle.std.proofs.Common.{◌≡◌, ℕ, zero, suc, ◌+◌, ◌-◌, ◌*◌, ◌/◌, ◌%◌, ◌^◌, ◌<◌, ◌≤◌, min, max, Bool, true, false, not, eqb, ◌⊎◌, sym, refl, ap, ◌∙◌, subst, ap₂, inl, inr, lt_of_lt_of_le, le_of_suc-le-suc, not-suc-le-zero, mod-lt, mod-eq_of_lt, mul-le-mul_right, mul_assoc, add_comm, eq-or-lt_of_le, one-mul, pow-suc, zero-add, zero-mul, div-one, add-one, arith, lit<, pow_mono, shr-shr, eq-eqb, ne_eqb, eqb-true}
+use Rattle.std.proofs.Common.{◌≡◌, ℕ, zero, suc, ◌+◌, ◌-◌, ◌*◌, ◌/◌, ◌%◌, ◌^◌, ◌<◌, ◌≤◌, min, max, Bool, true, false, not, eqb, ◌⊎◌, sym, refl, ap, ◌∙◌, ap₂, inl, inr, le_of_suc-le-suc, not-suc-le-zero, mod-eq_of_lt, mul-le-mul_right, add_comm, eq-or-lt_of_le, one-mul, pow-suc, zero-add, zero-mul, add-one, arith, lit<, eq-eqb, ne_eqb, eqb-true}
 use Rattle.std.specs.Int.{bit_at, from_bool, w64}
-use Rattle.std.proofs.lemmas.Nat.{zero_from_ones}
 use Rattle.std.proofs.lemmas.Nat.Bits.{bit_at-lt, bit_at-suc, bit_at-zero, bit_at_above, bit_at_and, bit_at_lowest, bit_at_not, bit_at_or, and_pow, same_from_bits_below}
 use lib.Dec.{eqb-zero-suc, eqb-suc-zero, eqb-suc-suc}
-use lib.Arith.{digits_mod, bin_ind}
+use lib.Arith.{bin_ind}
 use lib.Pow.{pow-lt}
-use lib.Bits.{bit_and, bit_or, and_step, or_step, and_shr, or_shr, or_shifted, or_shifted_r, and_mask, and_le_l, or_lt}
+use lib.Bits.{bit_and, bit_or, and_step, or_step, and_shr, or_shr, or_shifted, or_shifted_r, and_le_l, or_lt}
 use lib.Count.{ones, ones_in, ones_step, ones_cat}
 use borrow.Author.Tests.{eqb-false}
 use Rattle.std.proofs.lemmas.Bool.{cases_lt, not-true}
@@ -167,8 +166,6 @@ bit_minus w v i hw hv = go (cases_lt i 64)
     go (inl l) =
         let a = bit_at_and w (2 ^ 64 - 1 - v) i in
         let n : bit_at (2 ^ 64 - 1 - v) i ≡ 1 - bit_at v i = bit_at_not w64 v i hv l in
-        let x = bit_at-lt w i in
-        let y = bit_at-lt v i in
         omega arith
     go (inr g) =
         let a = bit_at_and w (2 ^ 64 - 1 - v) i in
@@ -210,9 +207,6 @@ set_of_within p n i m = go (cases_lt i n)
 pub empty_has_none : (w i : ℕ) → w ≡ 0 → bit_at w i ≡ 1 → ⊥
 empty_has_none w i z m = let n : bit_at w i ≡ 0 = ap (λ (x : ℕ). bit_at x i) z ∙ bit_at-zero i in omega arith
 
-pub no_ones : (w i : ℕ) → ones w ≡ 0 → bit_at w i ≡ 0
-no_ones w i z = ap (λ (x : ℕ). bit_at x i) (zero_from_ones w z) ∙ bit_at-zero i
-
 pub some_member : (w : ℕ) → 0 < w → (i : ℕ) × (bit_at w i ≡ 1)
 some_member =
     bin_ind (λ (n : ℕ). 0 < n → (i : ℕ) × (bit_at n i ≡ 1)) (λ h. absurd (omega arith))
@@ -227,7 +221,7 @@ bit_choice w i = go (bit_at w i) refl
   where
     go : (d : ℕ) → bit_at w i ≡ d → (bit_at w i ≡ 0) ⊎ (bit_at w i ≡ 1)
     go zero e = inl e
-    go (suc d) e = let l = bit_at-lt w i in inr (omega arith)
+    go (suc d) e = inr (omega arith)
 
 pub meets_found : (v w : ℕ) → meets v w ≡ true → (i : ℕ) × (bit_at v i ≡ 1) × (bit_at w i ≡ 1)
 meets_found v w t =
@@ -235,8 +229,6 @@ meets_found v w t =
     let ne = eqb-false x 0 (not-true (eqb x 0) t) in
     let m = some_member x (omega arith) in
     let a = bit_at_and v w m.0 in
-    let hv = bit_at-lt v m.0 in
-    let hw = bit_at-lt w m.0 in
     let e = m.1 in
     (m.0, omega arith, omega arith)
 
@@ -247,4 +239,4 @@ meets_at v w i mv mw =
 
 -- what the test of a member tells
 pub not_member : (w i : ℕ) → eqb (bit_at w i) 1 ≡ false → bit_at w i ≡ 0
-not_member w i h = let l = bit_at-lt w i in let n = eqb-false (bit_at w i) 1 h in omega arith
+not_member w i h = let n = eqb-false (bit_at w i) 1 h in omega arith

@@ -1,6 +1,6 @@
-use Rattle.std.proofs.Common.{◌≡◌, ℕ, ◌<◌, ◌≤◌, get_or, arith, rules}
+use Rattle.std.proofs.Common.{◌≡◌, ℕ, ◌<◌, ◌≤◌, arith, rules}
 use Rattle.flow.specs.Tables.{table_rights}
-use Rattle.flow.specs.Touched.{TouchesAt, Touches, feeds}
+use Rattle.flow.specs.Touched.{TouchesAt, feeds}
 use Rattle.flow.specs.Sets.{set_of}
 use Rattle.flow.proofs.FlowLaws.{made_each, touches_each, words_followers, words_past}
 use Rattle.flow.proofs.followers.follower_words.Goals as goal
@@ -13,8 +13,7 @@ returns g c =
     let words = c.from_fn.result in
     let le : s.devices ≤ 64 = omega arith in
     let made = c.from_fn-touched.ensures.items in
-    let t = touches_each s rows ts le made.long (λ d h. made_each _ (TouchesAt (table_rights c.args.table.now)) _ 64 (λ i y q l k. search rules) ts made d _ h) in
+    let t = touches_each s rows ts le made.long (λ d h. made_each (TouchesAt (table_rights c.args.table.now)) made (λ i y q l k. search rules) d _ h) in
     let written = c.from_fn.ensures.items in
-    let at : (a : ℕ) → a < 64 → get_or words a 0 ≡ set_of (feeds ts a) s.devices =
-    λ a h. made_each _ (λ a w. w ≡ set_of (feeds ts a) s.devices) _ 64 (λ i y q l k. search rules) words written a 0 h in
+    let at = λ (a : ℕ) (h : a < 64). made_each (λ b w. w ≡ set_of (feeds ts b) s.devices) written (λ i y q l k. search rules) a 0 h in
     record { value = words_followers s rows ts words le t written.long at; past = words_past s rows ts words le t written.long at }

@@ -1,7 +1,7 @@
-use Rattle.std.proofs.Common.{◌≡◌, ◌<◌, arith, rules}
+use Rattle.std.proofs.Common.{arith}
 use Rattle.flow.specs.Tables.{table_rights}
 use Rattle.flow.proofs.FlowLaws.{source_within}
-use Rattle.flow.proofs.OrderLaws.{listed_none, listed_more, listed_stuck, listed_all}
+use Rattle.flow.proofs.OrderLaws.{listed_more, listed_stuck, listed_all}
 use Rattle.flow.proofs.order.listing.Goals as goal
 
 pub returns-in_err-next : goal.returns-in_err-next

@@ -1,4 +1,4 @@
-use Rattle.std.proofs.Common.{◌≡◌, ◌≤◌, length, take, sym, ◌∙◌, subst, arith}
+use Rattle.std.proofs.Common.{◌≤◌, length, sym, ◌∙◌, arith}
 use Rattle.mesh.specs.Table.{rows_of}
 use Rattle.flow.specs.Flow.{rights}
 use Rattle.flow.specs.Order.{FlowOrder}

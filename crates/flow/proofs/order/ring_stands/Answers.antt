@@ -1,4 +1,4 @@
-use Rattle.std.proofs.Common.{◌≤◌, length}
+use Rattle.std.proofs.Common.{◌≤◌, length, rules}
 use Rattle.mesh.specs.Table.{rows_of}
 use Rattle.flow.specs.Flow.{rights}
 use Rattle.flow.specs.Listing.{Listed}
@@ -13,4 +13,4 @@ returns g c =
     let over = c.in_ok-table.ensures.cases in
     let there : rows_of s ≤ length rows = rw (over.0, over.1) at c.in_ok-table.table.lent in
     let l : Listed (rights s rows) s.devices c.listing.result = rw (over.0, over.1) at c.listing.ensures.value in
-    record { cases = (there, ring_seen (rights s rows) s.devices c.listing.result c.is_none.result (source_within s rows) l c.is_none.ensures) }
+    record { cases = (there, ring_seen (rights s rows) s.devices c.listing.result _ (source_within s rows) l (search rules)) }

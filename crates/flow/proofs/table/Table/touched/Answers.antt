@@ -1,4 +1,4 @@
-use Rattle.std.proofs.Common.{◌≡◌, ℕ, ◌+◌, ◌*◌, ◌<◌, ◌≤◌, length, ap, sym, ◌∙◌, arith, rules}
+use Rattle.std.proofs.Common.{ap, ◌∙◌, arith, rules}
 use Rattle.flow.specs.Flow.{right_at}
 use Rattle.flow.specs.Sets.{set_of}
 use Rattle.mesh.specs.Rights.{can_read, can_write}
