@@ -1,7 +1,7 @@
 -- Rings and orders: devices that all wait for one another hold a ring, and an order leaves room for none.
-use Rattle.std.proofs.Common.{◌≡◌, ℕ, zero, suc, ◌+◌, ◌-◌, ◌^◌, ◌<◌, ◌≤◌, max, Bool, true, false, cond, eqb, ◌⊎◌, List, [], ◌∷◌, ◌++◌, length, get_or, take, drop, Option, Some, None, is_some, not, MatchBool, le_refl, sym, refl, ap, ◌∙◌, subst, inl, inr, arith, eq-eqb, eqb-true}
+use Rattle.std.proofs.Common.{◌≡◌, ℕ, zero, suc, ◌+◌, ◌-◌, ◌^◌, ◌<◌, ◌≤◌, max, Bool, true, false, cond, eqb, ◌⊎◌, List, [], ◌∷◌, ◌++◌, length, get_or, take, drop, Option, Some, None, is_some, not, MatchBool, sym, refl, ap, ◌∙◌, subst, inl, inr, arith, eq-eqb, eqb-true}
 use Rattle.std.specs.Int.{bit_at, from_bool}
-use Rattle.std.proofs.lemmas.Nat.Bits.{bit_at-zero, bit_at_above}
+use Rattle.std.proofs.lemmas.Nat.Bits.{bit_at_above}
 use lib.Bits.{bit_or, or_lt}
 use lib.Count.{ones, ones-le}
 use lib.Pow.{pow-lt}
@@ -14,6 +14,7 @@ use Rattle.flow.specs.declared.sets.Device.{Device}
 use Rattle.flow.specs.Flow.{Rights, Source, In, Different, Chain, Ring}
 use Rattle.flow.specs.Followers.{Follows, Followers}
 use Rattle.flow.specs.Order.{Ready, Lowest, FlowOrder}
+use Rattle.flow.specs.Members.{LeftBy}
 use Rattle.flow.specs.Listing.{Waits, NextOf, Listed}
 use Rattle.flow.proofs.SetLaws.{bit_with, bit_choice, bit_pow, ones_insert, ones_pow, ones_zero, some_member, empty_has_none}
 
@@ -185,23 +186,16 @@ pub record WaitingBut (words : List ℕ) (left rest waits : ℕ) : Type 0 where
   pub whole : (a b : ℕ) → Member a left → bit_at rest a ≡ 0 → Follows words a b → Member b waits
   pub among : (a : ℕ) → bit_at rest a ≤ bit_at left a
 
-pub waiting_none : (words : List ℕ) (left : ℕ) → WaitingBut words left left 0
-waiting_none words left = record {
-  sound = λ b m. let z = bit_at-zero b in absurd (omega arith);
-  whole = λ a b m z. absurd (omega arith);
-  among = λ a. le_refl (bit_at left a);
-}
-
-pub waiting_more : (words : List ℕ) (left rest waits d less more : ℕ) → Member d rest → ((i : ℕ) → bit_at less i ≡ bit_at rest i - from_bool (eqb i d))
-    → ((i : ℕ) → bit_at more i ≡ max (bit_at waits i) (bit_at (get_or words d 0) i)) → WaitingBut words left rest waits → WaitingBut words left less more
-waiting_more words left rest waits d less more m fewer either w = record {
+pub waiting_more : (words : List ℕ) (left rest waits d less more : ℕ) → LeftBy rest d less → ((i : ℕ) → bit_at more i ≡ max (bit_at waits i) (bit_at (get_or words d 0) i))
+    → WaitingBut words left rest waits → WaitingBut words left less more
+waiting_more words left rest waits d less more by either w = record {
   sound = λ b o. from b o (bit_choice waits b);
   whole = λ a b l z f. go a b l z f (eqb a d) refl;
-  among = λ a. let x = fewer a in let y = w.among a in omega arith;
+  among = λ a. let x = by.members a in let y = w.among a in omega arith;
 }
   where
     from : (b : ℕ) → Member b more → (bit_at waits b ≡ 0) ⊎ (bit_at waits b ≡ 1) → Waits words left b
-    from b o (inl z) = let e = either b in let l = w.among d in (d, omega arith, omega arith)
+    from b o (inl z) = let e = either b in let m = by.lowest.item in let l = w.among d in (d, omega arith, omega arith)
     from b o (inr y) = w.sound b y
 
     go : (a b : ℕ) → Member a left → bit_at less a ≡ 0 → Follows words a b → (t : Bool) → eqb a d ≡ t → Member b more
@@ -210,7 +204,7 @@ waiting_more words left rest waits d less more m fewer either w = record {
         let e = either b in
         omega arith
     go a b l z f false t =
-        let x = fewer a in
+        let x = by.members a in
         let o : from_bool (eqb a d) ≡ 0 = ap from_bool t in
         let y = w.whole a b l (omega arith) f in
         let e = either b in

@@ -1,11 +1,12 @@
 -- A visit on its way, and what it comes to.
-use Rattle.std.proofs.Common.{◌≡◌, ℕ, ◌+◌, ◌-◌, ◌≤◌, max, Bool, true, false, eqb, ◌⊎◌, List, get_or, sym, refl, ap, ◌∙◌, subst, inl, inr, le_refl, arith, eq-eqb, eqb-true}
+use Rattle.std.proofs.Common.{◌≡◌, ℕ, ◌+◌, ◌≤◌, max, Bool, true, false, eqb, ◌⊎◌, List, get_or, sym, refl, ap, ◌∙◌, subst, inl, inr, arith, eq-eqb, eqb-true}
 use Rattle.std.specs.Int.{bit_at, from_bool}
 use Rattle.std.proofs.lemmas.Nat.Bits.{bit_at-zero}
 use lib.Count.{ones}
 use Rattle.flow.specs.Sets.{Member}
 use Rattle.flow.specs.Flow.{Rights, Source, Path, step, further}
 use Rattle.flow.specs.Followers.{Follows, Followers}
+use Rattle.flow.specs.Members.{LeftBy}
 use Rattle.flow.specs.Visit.{Visited}
 use Rattle.flow.proofs.SetLaws.{bit_choice}
 
@@ -25,15 +26,6 @@ pub record Dealt (words : List ℕ) (seen next after : ℕ) : Type 0 where
   pub enters : Member next after
   pub closed : (i j : ℕ) → Member i after → bit_at seen i ≡ 0 → Follows words i j → Member j after
   pub reached : (i : ℕ) → Member i after → bit_at seen i ≡ 0 → (i ≡ next) ⊎ Path (Follows words) next i
-
-pub dealt_before : (words : List ℕ) (seen next : ℕ) → Member next seen → Dealt words seen next seen
-dealt_before words seen n m = record {
-  keeps = λ i. le_refl (bit_at seen i);
-  grows = le_refl (ones seen);
-  enters = m;
-  closed = λ i j s z f. absurd (omega arith);
-  reached = λ i s z. absurd (omega arith);
-}
 
 pub dealt_now : (words : List ℕ) (seen next entered after : ℕ) → bit_at seen next ≡ 0 → ((i : ℕ) → bit_at entered i ≡ max (bit_at seen i) (from_bool (eqb i next)))
     → ones entered ≡ ones seen + 1 → Visited words entered next after → Dealt words seen next after
@@ -65,15 +57,15 @@ front : {R : ℕ → ℕ → Type 0} {d n : ℕ} → R d n → (i : ℕ) → Pat
 front f i (step g) = further (step f) g
 front f i (further p g) = further (front f _ p) g
 
-pub going_more : (words : List ℕ) (e d seen rest n after left : ℕ) → Going words e d seen rest → Member n rest
-    → ((j : ℕ) → bit_at left j ≡ bit_at rest j - from_bool (eqb j n)) → Dealt words seen n after → Going words e d after left
-going_more words e d seen rest n after left go m less v = record {
+pub going_more : (words : List ℕ) (e d seen rest n after left : ℕ) → Going words e d seen rest → LeftBy rest n left
+    → Dealt words seen n after → Going words e d after left
+going_more words e d seen rest n after left go by v = record {
   keeps = λ i. let a = go.keeps i in let b = v.keeps i in omega arith;
   grows = omega arith;
   closed = λ i j s z f. closes i j s z f (bit_choice seen i);
   reached = λ i s z. reaches i s z (bit_choice seen i);
   pending = λ j. pends j (eqb j n) refl;
-  among = λ j. let a = go.among j in let b = less j in omega arith;
+  among = λ j. let a = go.among j in let b = by.members j in omega arith;
 }
   where
     follows : Follows words d n
@@ -97,22 +89,10 @@ going_more words e d seen rest n after left go m less v = record {
         omega arith
     pends j false t =
         let a = go.pending j in
-        let b = less j in
+        let b = by.members j in
         let f : from_bool (eqb j n) ≡ 0 = ap from_bool t in
         let k = v.keeps j in
         omega arith
-
-pub going_end : (words : List ℕ) (e d seen rest : ℕ) → rest ≡ 0 → Going words e d seen rest → Visited words e d seen
-going_end words e d seen rest none go = record {
-  keeps = go.keeps;
-  grows = go.grows;
-  follows = λ j f.
-      let p = go.pending j in
-      let z : bit_at rest j ≡ 0 = ap (λ w. bit_at w j) none ∙ bit_at-zero j in
-      omega arith;
-  closed = go.closed;
-  reached = go.reached;
-}
 
 -- ---- from the words to the sources
 

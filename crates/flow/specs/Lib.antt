@@ -1,5 +1,6 @@
 -- The definitions that the contracts cite.
 pub mod Sets
+pub mod Members
 pub mod Flow
 pub mod Touched
 pub mod Tables

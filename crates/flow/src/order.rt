@@ -6,7 +6,7 @@ ghost use Rattle.flow.specs.Sets.{Member};
 ghost use Rattle.flow.specs.Tables.{table_rights};
 
 use super::followers::follower_words;
-use super::sets::{Device, first, lowest, minus, union, without};
+use super::sets::{Device, Members, first, lowest, minus, union, without};
 use super::table::Table;
 use arrayvec::ArrayVec;
 use mesh::refusal::Refusal;
@@ -19,10 +19,8 @@ fn waiting(words: &[u64; 64], left: u64) -> u64
     ensures whole { (b : ℕ) → Waits words.now left b → Member b result }
 {
     let mut waits = 0;
-    let mut rest = left;
-    while let Some(device) = lowest(rest) {
+    for device in Members(left) {
         waits = union(waits, words[device.number]);
-        rest = without(rest, device);
     }
     waits
 }

@@ -5,7 +5,7 @@ ghost use Rattle.flow.specs.Reach.{ReachAnswer, Reaches};
 ghost use Rattle.flow.specs.Visit.{Visited};
 
 use super::followers::follower_words;
-use super::sets::{Device, count, lowest, member, with, without};
+use super::sets::{Device, Members, count, member, with};
 use super::table::Table;
 use mesh::refusal::Refusal;
 use mesh::row::Row;
@@ -23,9 +23,7 @@ fn visit(words: &[u64; 64], entered: u64, device: Device) -> u64
     ensures value { Visited words.now entered device.number result }
 {
     let mut seen = entered;
-    let mut rest = words[device.number];
-    while let Some(next) = lowest(rest) {
-        rest = without(rest, next);
+    for next in Members(words[device.number]) {
         if !member(seen, next) {
             seen = visit(words, with(seen, next), next);
         }

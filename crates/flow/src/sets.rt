@@ -66,6 +66,27 @@ pub(crate) fn lowest(set: u64) -> Option<Device>
     })
 }
 
+// The members of a set, the lowest first.
+#[derive(Drop)]
+pub(crate) struct Members(pub(crate) u64);
+
+impl Iterator for Members {
+    ghost use Rattle.std.specs.Iterator.{at_most};
+    ghost use Rattle.flow.specs.Members.{TakesLowest};
+
+    type Item = Device;
+
+    ghost next_gives = { λ s r t. TakesLowest s.0 r t.0 };
+
+    ghost remaining = { λ s. at_most (count_ones s.0) };
+
+    fn next(&mut self) -> Option<Device> {
+        let device = lowest(self.0)?;
+        self.0 = without(self.0, device);
+        Some(device)
+    }
+}
+
 // The number of members.
 pub(crate) fn count(set: u64) -> u32
     ensures value { result ≡ count_of (has set) 64 }

@@ -7,7 +7,4 @@ abbrev pub decreases-visit : goal.decreases-visit
 decreases-visit l = 64 - ones l.entered
 
 abbrev pub invariant-loop-next : goal.invariant-loop-next
-invariant-loop-next l = Going l.words l.entered l.fn.device.number l.seen l.rest × (l.seen < 2 ^ 64) × (l.rest < 2 ^ 64)
-
-abbrev pub decreases-loop-next : goal.decreases-loop-next
-decreases-loop-next l = ones l.rest
+invariant-loop-next l = Going l.words l.entered l.fn.device.number l.seen l.next-iterator.0 × (l.seen < 2 ^ 64)
