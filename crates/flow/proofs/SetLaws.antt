@@ -85,14 +85,14 @@ pub set_of_step : (p : ℕ → Bool) (n : ℕ) → set_of p (n + 1) ≡ from_boo
 unfolding set_of
 set_of_step p n = ap (set_of p) (add-one n)
 
-flag_lt : (b : Bool) → from_bool b < 2
-flag_lt true = lit< tt
-flag_lt false = lit< tt
+digit_lt : (b : Bool) → from_bool b < 2
+digit_lt true = lit< tt
+digit_lt false = lit< tt
 
 -- the next number joins if it passes
 pub set_of_more : (p : ℕ → Bool) (n digit w : ℕ) → n < 64 → digit ≡ from_bool (p n) → w ≡ set_of p n → bit_or w (digit * 2 ^ n % 2 ^ 64) ≡ set_of p (n + 1)
 set_of_more p n digit w h d e =
-    let l = flag_lt (p n) in
+    let l = digit_lt (p n) in
     let at_most : digit ≤ 1 = omega arith in
     let small : digit * 2 ^ n < 2 ^ 64 = omega (arith, mul-le-mul_right (2 ^ n) at_most, pow-lt h) in
     ap₂ bit_or e (mod-eq_of_lt small) ∙ or_shifted_r digit n (set_of p n) (set_of_lt p n)
@@ -100,7 +100,7 @@ set_of_more p n digit w h d e =
 
 bit_scaled : (b : Bool) (n i : ℕ) → bit_at (from_bool b * 2 ^ n) i ≡ min (from_bool b) (from_bool (eqb i n))
 bit_scaled true n i =
-    let lt : from_bool (eqb i n) < 2 = flag_lt (eqb i n) in
+    let lt : from_bool (eqb i n) < 2 = digit_lt (eqb i n) in
     let e : from_bool (eqb i n) ≡ min 1 (from_bool (eqb i n)) = omega arith in
     ap (λ (x : ℕ). bit_at x i) (one-mul (2 ^ n)) ∙ bit_pow n i ∙ e
 bit_scaled false n i =
@@ -120,7 +120,7 @@ set_of_bit p (suc n) i h =
         let x = bit_scaled (p n) n i in
         let t : from_bool (eqb i n) ≡ 1 = ap from_bool (eq-eqb i n e) in
         let hi = bit_at_above (set_of p n) n i (set_of_lt p n) (omega arith) in
-        let l = flag_lt (p n) in
+        let l = digit_lt (p n) in
         let same : from_bool (p i) ≡ from_bool (p n) = ap (λ (k : ℕ). from_bool (p k)) e in
         omega arith
     go ih (inr l) =
@@ -140,12 +140,12 @@ set_of_ones p (suc n) = ones_cat n (from_bool (p n)) (set_of p n) (set_of_lt p n
 
 -- every word of n digits is the set of its members
 pub set_of_has : (n w : ℕ) → w < 2 ^ n → set_of (has w) n ≡ w
-set_of_has n w h = same_from_bits_below n (set_of (has w) n) w (set_of_lt (has w) n) h (λ i l. set_of_bit (has w) n i l ∙ flag_has (bit_at w i) (bit_at-lt w i))
+set_of_has n w h = same_from_bits_below n (set_of (has w) n) w (set_of_lt (has w) n) h (λ i l. set_of_bit (has w) n i l ∙ digit_has (bit_at w i) (bit_at-lt w i))
   where
-    flag_has : (d : ℕ) → d < 2 → from_bool (eqb d 1) ≡ d
-    flag_has zero k = refl
-    flag_has (suc zero) k = refl
-    flag_has (suc (suc d)) k = absurd (omega arith)
+    digit_has : (d : ℕ) → d < 2 → from_bool (eqb d 1) ≡ d
+    digit_has zero k = refl
+    digit_has (suc zero) k = refl
+    digit_has (suc (suc d)) k = absurd (omega arith)
 
 -- so its ones are its members
 pub ones_members : (n w : ℕ) → w < 2 ^ n → ones w ≡ count_of (has w) n
@@ -153,8 +153,8 @@ ones_members n w h = ap ones (sym (set_of_has n w h)) ∙ set_of_ones (has w) n
 
 -- ---- sets made from others, member by member
 
-flag_self : (k : ℕ) → from_bool (eqb k k) ≡ 1
-flag_self k = ap from_bool (eq-eqb k k refl)
+digit_self : (k : ℕ) → from_bool (eqb k k) ≡ 1
+digit_self k = ap from_bool (eq-eqb k k refl)
 
 pub bit_with : (k w i : ℕ) → bit_at (bit_or w (2 ^ k)) i ≡ max (bit_at w i) (from_bool (eqb i k))
 bit_with k w i = bit_at_or w (2 ^ k) i ∙ ap (max (bit_at w i)) (bit_pow k i)
@@ -182,7 +182,7 @@ ones_without k w h hw m =
     let l = and_le_l w (2 ^ 64 - 1 - 2 ^ k) in
     let hv : v < 2 ^ 64 = omega arith in
     let at = bit_without k w k h hw in
-    let s = flag_self k in
+    let s = digit_self k in
     let z : bit_at v k ≡ 0 = omega arith in
     let same : bit_or v (2 ^ k) ≡ w = same_from_bits_below 64 (bit_or v (2 ^ k)) w (or_lt 64 v (2 ^ k) hv (pow-lt h)) hw (λ i _. back v i (bit_with k v i) (bit_without k w i h hw) (eqb i k) refl) in
     sym (ones_insert k v z) ∙ ap ones same

@@ -1,5 +1,6 @@
 -- Going over the members of a set.
---     TakesLowest w r v   r is the lowest member of w, and v has the others; or none where there is no member
+--     LeftBy w d v        d is the lowest member of w, and v has the others
+--     TakesLowest w r v   the same of the device r; or r is none, and w has no member
 use Rattle.std.specs.Prelude.{◌≡◌, ℕ, ◌+◌, ◌-◌, Some, None, Option, ◌==◌, count_ones}
 use Rattle.std.specs.Int.{bit_at, from_bool}
 use Rattle.flow.specs.declared.sets.Device.{Device}

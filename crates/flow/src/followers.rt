@@ -27,7 +27,7 @@ pub(crate) fn follower_words<W>(table: &Table<W>) -> [u64; 64]
         {
             set_where(
                 shape.devices(),
-                |to| from != to && touched[from].reaches(touched[to]),
+                |to| from != to && touched[from].flows_into(touched[to]),
             )
         },
     )

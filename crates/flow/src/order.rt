@@ -6,7 +6,7 @@ ghost use Rattle.flow.specs.Sets.{Member};
 ghost use Rattle.flow.specs.Tables.{table_rights};
 
 use super::followers::follower_words;
-use super::sets::{Device, Members, first, lowest, minus, union, without};
+use super::sets::{Device, Members, devices_of, lowest, minus, union, without};
 use super::table::Table;
 use arrayvec::ArrayVec;
 use mesh::refusal::Refusal;
@@ -38,7 +38,7 @@ fn listing<W>(table: &Table<W>) -> Option<ArrayVec<u8, 64>>
 {
     let words = follower_words(table);
     let mut list = ArrayVec::new();
-    let mut left = first(table.shape.devices());
+    let mut left = devices_of(table.shape);
     while left != 0 {
         let next = next_device(&words, left)?;
         left = without(left, next);

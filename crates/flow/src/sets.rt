@@ -1,7 +1,9 @@
 // Sets of devices or points as words: all bit operations stand here.
-ghost use Rattle.std.specs.Prelude.{◌≡◌, ℕ, ◌+◌, ◌-◌, ◌<◌, ◌≤◌, max, Bool, ◌==◌, MatchOption, count_ones};
+ghost use Rattle.std.specs.Prelude.{◌≡◌, ℕ, ◌+◌, ◌-◌, ◌<◌, ◌≤◌, max, Bool, ◌==◌, ◌↔◌, MatchOption, count_ones};
 ghost use Rattle.std.specs.Int.{bit_at, from_bool};
 ghost use Rattle.flow.specs.Sets.{Member, IsLowest, has, set_of, count_of, meets};
+
+use mesh::shape::Shape;
 
 // A device by its number, which a set may have.
 #[derive(Clone, Copy)]
@@ -94,13 +96,12 @@ pub(crate) fn count(set: u64) -> u32
     set.count_ones()
 }
 
-// The set of the first n numbers.
-pub(crate) fn first(n: usize) -> u64
-    requires { n ≤ 64 }
-    ensures members { (i : ℕ) → (Member i result → i < n) × (i < n → Member i result) }
-    ensures count { count_ones result ≡ n }
+// The set of a table's devices.
+pub(crate) fn devices_of(shape: Shape) -> u64
+    ensures members { (i : ℕ) → Member i result ↔ (i < shape.devices) }
+    ensures count { count_ones result ≡ shape.devices }
 {
-    if n < 64 { (1 << n) - 1 } else { u64::MAX }
+    u64::MAX >> (64 - shape.devices())
 }
 
 // The set of those of the first n numbers that pass a test, which is asked once of each.

@@ -13,7 +13,7 @@ pub(crate) struct Touched {
 
 impl Touched {
     // Whether there is a point that this device writes and the other reads.
-    pub(crate) fn reaches(self, other: Touched) -> bool
+    pub(crate) fn flows_into(self, other: Touched) -> bool
         ensures value { result ≡ meets self.writes other.reads }
     {
         meet(self.writes, other.reads)
