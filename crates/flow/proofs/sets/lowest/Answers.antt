@@ -3,11 +3,6 @@ use Rattle.std.specs.Int.{w64}
 use Rattle.std.proofs.lemmas.Nat.Bits.{bit_at-trailing_zeros}
 use Rattle.flow.proofs.sets.lowest.Goals as goal
 
-pub invariant_of-result : goal.invariant_of-result
-invariant_of-result c =
-    let h : c.args.set < 2 ^ 64 = omega arith in
-    record { in_word = (bit_at-trailing_zeros w64 c.args.set (omega arith) h).0 }
-
 pub returns : goal.returns
 returns c =
     let h : c.args.set < 2 ^ 64 = omega arith in
