@@ -1,28 +1,22 @@
 -- The laws of a set of numbers below 64 as one word.
 use Rattle.std.proofs.Common.{◌≡◌, ℕ, zero, suc, ◌+◌, ◌-◌, ◌*◌, ◌/◌, ◌%◌, ◌^◌, ◌<◌, ◌≤◌, min, max, Bool, true, false, not, eqb, ◌⊎◌, sym, refl, ap, ◌∙◌, ap₂, inl, inr, le_of_suc-le-suc, not-suc-le-zero, mod-eq_of_lt, mul-le-mul_right, add_comm, eq-or-lt_of_le, one-mul, pow-suc, zero-add, zero-mul, add-one, arith, lit<, eq-eqb, ne_eqb, eqb-true}
 use Rattle.std.specs.Int.{bit_at, from_bool, w64}
-use Rattle.std.proofs.lemmas.Nat.Bits.{bit_at-lt, bit_at-suc, bit_at-zero, bit_at_above, bit_at_and, bit_at_lowest, bit_at_not, bit_at_or, and_pow, same_from_bits_below}
+use Rattle.std.proofs.lemmas.Nat.Bits.{bit_at-lt, bit_at-pow_other, bit_at-pow_same, bit_at_cat_high, bit_at_cat_low, bit_at-suc, bit_at-zero, bit_at_above, bit_at_and, bit_at_lowest, bit_at_not, bit_at_or, and_pow, same_from_bits_below}
 use lib.Dec.{eqb-zero-suc, eqb-suc-zero, eqb-suc-suc}
 use lib.Arith.{bin_ind}
 use lib.Pow.{pow-lt}
 use lib.Bits.{bit_and, bit_or, and_step, or_step, and_shr, or_shr, or_shifted, or_shifted_r, and_le_l, or_lt}
 use lib.Count.{ones, ones_in, ones_step, ones_cat}
 use borrow.Author.Tests.{eqb-false}
-use Rattle.std.proofs.lemmas.Bool.{cases_lt, not-true}
+use Rattle.std.proofs.lemmas.Bool.{cases_eq, cases_lt, not-true}
 use Rattle.flow.specs.Sets.{has, meets, set_of, count_of}
 
 -- a power of two is the set with one member
 pub bit_pow : (k i : ℕ) → bit_at (2 ^ k) i ≡ from_bool (eqb i k)
-bit_pow zero zero = bit_at_lowest 1
-bit_pow zero (suc i) = bit_at-suc 1 i ∙ bit_at-zero i ∙ ap from_bool (sym (eqb-suc-zero i))
-bit_pow (suc k) zero =
-    let p = pow-suc 2 k in
-    let e : 2 ^ suc k % 2 ≡ 0 = omega arith in
-    bit_at_lowest (2 ^ suc k) ∙ e ∙ ap from_bool (sym (eqb-zero-suc k))
-bit_pow (suc k) (suc i) =
-    let p = pow-suc 2 k in
-    let e : 2 ^ suc k / 2 ≡ 2 ^ k = omega arith in
-    bit_at-suc (2 ^ suc k) i ∙ ap (λ (x : ℕ). bit_at x i) e ∙ bit_pow k i ∙ ap from_bool (sym (eqb-suc-suc i k))
+bit_pow k i = elim (cases_eq i k) [
+  | inl e ↦ ap (bit_at (2 ^ k)) e ∙ bit_at-pow_same k ∙ ap from_bool (sym (eq-eqb i k e))
+  | inr ne ↦ bit_at-pow_other k i ne ∙ ap from_bool (sym (ne_eqb i k ne))
+]
 
 -- ---- the number of members
 
@@ -98,36 +92,19 @@ set_of_more p n digit w h d e =
     ap₂ bit_or e (mod-eq_of_lt small) ∙ or_shifted_r digit n (set_of p n) (set_of_lt p n)
     ∙ ap (λ (x : ℕ). x * 2 ^ n + set_of p n) d ∙ sym (set_of_step p n)
 
-bit_scaled : (b : Bool) (n i : ℕ) → bit_at (from_bool b * 2 ^ n) i ≡ min (from_bool b) (from_bool (eqb i n))
-bit_scaled true n i =
-    let lt : from_bool (eqb i n) < 2 = digit_lt (eqb i n) in
-    let e : from_bool (eqb i n) ≡ min 1 (from_bool (eqb i n)) = omega arith in
-    ap (λ (x : ℕ). bit_at x i) (one-mul (2 ^ n)) ∙ bit_pow n i ∙ e
-bit_scaled false n i =
-    let e : 0 ≡ min 0 (from_bool (eqb i n)) = omega arith in
-    ap (λ (x : ℕ). bit_at x i) (zero-mul (2 ^ n)) ∙ bit_at-zero i ∙ e
-
 pub set_of_bit : (p : ℕ → Bool) (n i : ℕ) → i < n → bit_at (set_of p n) i ≡ from_bool (p i)
 unfolding set_of
 set_of_bit p zero i h = absurd (not-suc-le-zero h)
-set_of_bit p (suc n) i h =
-    ap (λ (x : ℕ). bit_at x i) (sym (or_shifted (from_bool (p n)) n (set_of p n) (set_of_lt p n)))
-    ∙ bit_at_or (from_bool (p n) * 2 ^ n) (set_of p n) i
-    ∙ go (set_of_bit p n i) (eq-or-lt_of_le (le_of_suc-le-suc h))
+set_of_bit p (suc n) i h = go (set_of_bit p n i) (eq-or-lt_of_le (le_of_suc-le-suc h))
   where
-    go : (i < n → bit_at (set_of p n) i ≡ from_bool (p i)) → (i ≡ n) ⊎ (i < n) → max (bit_at (from_bool (p n) * 2 ^ n) i) (bit_at (set_of p n) i) ≡ from_bool (p i)
-    go ih (inl e) =
-        let x = bit_scaled (p n) n i in
-        let t : from_bool (eqb i n) ≡ 1 = ap from_bool (eq-eqb i n e) in
-        let hi = bit_at_above (set_of p n) n i (set_of_lt p n) (omega arith) in
+    go : (i < n → bit_at (set_of p n) i ≡ from_bool (p i)) → (i ≡ n) ⊎ (i < n) → bit_at (from_bool (p n) * 2 ^ n + set_of p n) i ≡ from_bool (p i)
+    go below (inl e) =
+        let none : i - n ≡ 0 = omega arith in
         let l = digit_lt (p n) in
-        let same : from_bool (p i) ≡ from_bool (p n) = ap (λ (k : ℕ). from_bool (p k)) e in
-        omega arith
-    go ih (inr l) =
-        let x = bit_scaled (p n) n i in
-        let t : from_bool (eqb i n) ≡ 0 = ap from_bool (ne_eqb i n (λ e. omega arith)) in
-        let y = ih l in
-        omega arith
+        let one : from_bool (p n) % 2 ≡ from_bool (p n) = omega arith in
+        bit_at_cat_high (from_bool (p n)) n (set_of p n) i (set_of_lt p n) (omega arith) ∙ ap (bit_at (from_bool (p n))) none
+        ∙ bit_at_lowest (from_bool (p n)) ∙ one ∙ ap (λ (k : ℕ). from_bool (p k)) (sym e)
+    go below (inr l) = bit_at_cat_low (from_bool (p n)) n (set_of p n) i l ∙ below l
 
 pub set_of_ones : (p : ℕ → Bool) (n : ℕ) → ones (set_of p n) ≡ count_of p n
 unfolding set_of count_of ones ones_in
