@@ -1,11 +1,11 @@
 -- The laws of a set of numbers below 64 as one word.
-use Rattle.std.proofs.Common.{◌≡◌, ℕ, zero, suc, ◌+◌, ◌-◌, ◌*◌, ◌/◌, ◌%◌, ◌^◌, ◌<◌, ◌≤◌, min, max, Bool, true, false, not, eqb, ◌⊎◌, sym, refl, ap, ◌∙◌, ap₂, inl, inr, le_of_suc-le-suc, not-suc-le-zero, mod-eq_of_lt, mul-le-mul_right, add_comm, eq-or-lt_of_le, one-mul, pow-suc, zero-add, zero-mul, add-one, arith, lit<, eq-eqb, ne_eqb, eqb-true}
+use Rattle.std.proofs.Common.{◌≡◌, ℕ, zero, suc, ◌+◌, ◌-◌, ◌*◌, ◌/◌, ◌%◌, ◌^◌, ◌<◌, ◌≤◌, max, Bool, true, false, not, eqb, ◌⊎◌, sym, refl, ap, ◌∙◌, ap₂, inl, inr, le_of_suc-le-suc, not-suc-le-zero, add_comm, eq-or-lt_of_le, one-mul, pow-suc, zero-add, zero-mul, add-one, arith, lit<, eq-eqb, ne_eqb, eqb-true}
 use Rattle.std.specs.Int.{bit_at, from_bool, w64}
 use Rattle.std.proofs.lemmas.Nat.Bits.{bit_at-lt, bit_at-pow_other, bit_at-pow_same, bit_at_cat_high, bit_at_cat_low, bit_at-suc, bit_at-zero, bit_at_above, bit_at_and, bit_at_lowest, bit_at_not, bit_at_or, and_pow, same_from_bits_below}
-use lib.Dec.{eqb-zero-suc, eqb-suc-zero, eqb-suc-suc}
+use Rattle.std.proofs.lemmas.Nat.{one_shl}
 use lib.Arith.{bin_ind}
 use lib.Pow.{pow-lt}
-use lib.Bits.{bit_and, bit_or, and_step, or_step, and_shr, or_shr, or_shifted, or_shifted_r, and_le_l, or_lt}
+use lib.Bits.{bit_and, bit_or, and_step, or_step, and_shr, or_shr, or_shifted_r, and_le_l, or_lt}
 use lib.Count.{ones, ones_in, ones_step, ones_cat}
 use borrow.Author.Tests.{eqb-false}
 use Rattle.std.proofs.lemmas.Bool.{cases_eq, cases_lt, not-true}
@@ -84,13 +84,15 @@ digit_lt true = lit< tt
 digit_lt false = lit< tt
 
 -- the next number joins if it passes
-pub set_of_more : (p : ℕ → Bool) (n digit w : ℕ) → n < 64 → digit ≡ from_bool (p n) → w ≡ set_of p n → bit_or w (digit * 2 ^ n % 2 ^ 64) ≡ set_of p (n + 1)
-set_of_more p n digit w h d e =
-    let l = digit_lt (p n) in
-    let at_most : digit ≤ 1 = omega arith in
-    let small : digit * 2 ^ n < 2 ^ 64 = omega (arith, mul-le-mul_right (2 ^ n) at_most, pow-lt h) in
-    ap₂ bit_or e (mod-eq_of_lt small) ∙ or_shifted_r digit n (set_of p n) (set_of_lt p n)
-    ∙ ap (λ (x : ℕ). x * 2 ^ n + set_of p n) d ∙ sym (set_of_step p n)
+pub set_of_push : (p : ℕ → Bool) (n w : ℕ) → n < 64 → p n ≡ true → w ≡ set_of p n → bit_or w (1 * 2 ^ n % 2 ^ 64) ≡ set_of p (n + 1)
+set_of_push p n w h t e =
+    ap₂ bit_or e (one_shl n 64 h ∙ sym (one-mul (2 ^ n))) ∙ or_shifted_r 1 n (set_of p n) (set_of_lt p n)
+    ∙ ap (λ (b : Bool). from_bool b * 2 ^ n + set_of p n) (sym t) ∙ sym (set_of_step p n)
+
+pub set_of_skip : (p : ℕ → Bool) (n : ℕ) → p n ≡ false → set_of p n ≡ set_of p (n + 1)
+set_of_skip p n t =
+    let e : 0 * 2 ^ n + set_of p n ≡ set_of p n = omega arith in
+    sym e ∙ ap (λ (b : Bool). from_bool b * 2 ^ n + set_of p n) (sym t) ∙ sym (set_of_step p n)
 
 pub set_of_bit : (p : ℕ → Bool) (n i : ℕ) → i < n → bit_at (set_of p n) i ≡ from_bool (p i)
 unfolding set_of
@@ -161,10 +163,12 @@ ones_without k w h hw m =
     let at = bit_without k w k h hw in
     let s = digit_self k in
     let z : bit_at v k ≡ 0 = omega arith in
-    let same : bit_or v (2 ^ k) ≡ w = same_from_bits_below 64 (bit_or v (2 ^ k)) w (or_lt 64 v (2 ^ k) hv (pow-lt h)) hw (λ i _. back v i (bit_with k v i) (bit_without k w i h hw) (eqb i k) refl) in
+    let same : bit_or v (2 ^ k) ≡ w =
+    same_from_bits_below 64 (bit_or v (2 ^ k)) w (or_lt 64 v (2 ^ k) hv (pow-lt h)) hw (λ i _. back v i (bit_with k v i) (bit_without k w i h hw) (eqb i k) refl) in
     sym (ones_insert k v z) ∙ ap ones same
   where
-    back : (v i : ℕ) → bit_at (bit_or v (2 ^ k)) i ≡ max (bit_at v i) (from_bool (eqb i k)) → bit_at v i ≡ bit_at w i - from_bool (eqb i k) → (b : Bool) → eqb i k ≡ b → bit_at (bit_or v (2 ^ k)) i ≡ bit_at w i
+    back : (v i : ℕ) → bit_at (bit_or v (2 ^ k)) i ≡ max (bit_at v i) (from_bool (eqb i k)) → bit_at v i ≡ bit_at w i - from_bool (eqb i k)
+        → (b : Bool) → eqb i k ≡ b → bit_at (bit_or v (2 ^ k)) i ≡ bit_at w i
     back v i a o true t =
         let f : from_bool (eqb i k) ≡ 1 = ap from_bool t in
         let e : bit_at w i ≡ 1 = ap (bit_at w) (eqb-true i k t) ∙ m in

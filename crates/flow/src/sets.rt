@@ -113,7 +113,9 @@ pub(crate) fn set_where<F: Fn(usize) -> bool>(n: usize, test: F) -> u64
 {
     let mut set = 0;
     for i in 0..n {
-        set |= u64::from(test(i)) << i;
+        if test(i) {
+            set |= 1 << i;
+        }
     }
     set
 }

@@ -20,8 +20,8 @@ loop-left-preserved g c =
     record {
       small = less.type_inv;
       listed = rw c.push.ensures.items
-          (listed_more (table_rights t) t.shape.devices l.list.items l.left c.in_ok-next.next w.result less.result (source_within t.shape t.rows.now) w.ensures.value l.invariant.listed next
-          less.ensures.members (less.ensures.count next.0));
+          (listed_more (table_rights t) t.shape.devices l.list.items l.left c.in_ok-next.next w.result less.result
+          (source_within t.shape t.rows.now) w.ensures.value l.invariant.listed next less.ensures.members (less.ensures.count next.0));
     }
 
 pub returns : goal.returns

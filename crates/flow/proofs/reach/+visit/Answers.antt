@@ -10,4 +10,5 @@ loop-next-preserved-then-not-member t c =
     let next = c.in-Some.next.number in
     let fresh = not_member seen next (sym c.if-not-member.ensures.value) in
     let dealt = dealt_now w seen next c.with.result c.visit-seen.result fresh c.with.ensures.members (c.with.ensures.count fresh) c.visit-seen.ensures.value in
-    (going_more w c.args.entered c.args.device.number seen c.loop-next.next-iterator.0 next c.visit-seen.result c.next.new.self.0 c.loop-next.invariant.0 c.in-Some.ensures.steps dealt, c.visit-seen.type_inv)
+    let going = going_more w c.args.entered c.args.device.number seen c.loop-next.next-iterator.0 next c.visit-seen.result c.next.new.self.0 c.loop-next.invariant.0 c.in-Some.ensures.steps dealt in
+    (going, c.visit-seen.type_inv)

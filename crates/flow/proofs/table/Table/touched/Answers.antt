@@ -1,6 +1,5 @@
-use Rattle.std.proofs.Common.{ap, ◌∙◌, arith, rules}
+use Rattle.std.proofs.Common.{arith, rules}
 use Rattle.flow.specs.Flow.{right_at}
-use Rattle.flow.specs.Sets.{set_of}
 use Rattle.mesh.specs.Rights.{can_read, can_write}
 use Rattle.mesh.specs.Table.{row_of}
 use Rattle.flow.proofs.FlowLaws.{touches_there, right_in_part}
@@ -12,8 +11,6 @@ returns g c =
     let rows = c.args.self.now.rows.now in
     let d = c.args.device in
     let e = c.points-points.ensures.value in
-    record {
-      value = touches_there s rows d _ (omega arith)
-          (c.set_where.ensures.value (λ p. can_read (right_at rows (row_of s d p))) (λ i b h q. search (rules, right_in_part)) ∙ ap (set_of (λ p. can_read (right_at rows (row_of s d p)))) e)
-          (c.set_where-2.ensures.value (λ p. can_write (right_at rows (row_of s d p))) (λ i b h q. search (rules, right_in_part)) ∙ ap (set_of (λ p. can_write (right_at rows (row_of s d p)))) e);
-    }
+    let r = c.set_where.ensures.value (λ p. can_read (right_at rows (row_of s d p))) (λ i b h q. search (rules, right_in_part)) in
+    let w = c.set_where-2.ensures.value (λ p. can_write (right_at rows (row_of s d p))) (λ i b h q. search (rules, right_in_part)) in
+    record { value = touches_there s rows d _ (omega arith) (rw e at r) (rw e at w) }
