@@ -1,5 +1,5 @@
 -- The rows of the table, device by device.
-use Rattle.std.proofs.Common.{◌≡◌, ℕ, suc, ◌+◌, ◌*◌, ◌<◌, ◌≤◌, ◌⊎◌, List, length, get_or, take, drop, sym, ap, ◌∙◌, subst, inl, inr, mul-le-mul_right, suc-mul, add-one, arith}
+use Rattle.std.proofs.Common.{◌≡◌, ℕ, suc, ◌+◌, ◌*◌, ◌<◌, ◌≤◌, ◌≢◌, ◌⊎◌, List, length, get_or, take, drop, sym, ap, ◌∙◌, subst, inl, inr, mul-le-mul_right, suc-mul, add-one, arith}
 use borrow.Rule.Slice.PartMut.{put_mid}
 use Rattle.std.proofs.lemmas.List.{length-take-le, get_or_append_left, get_or-append-add, get_or-take, drop-drop}
 use Rattle.std.proofs.lemmas.Slice.{drop-put_mid}
@@ -10,8 +10,15 @@ use Rattle.mesh.specs.Kind.{Kind}
 use Rattle.mesh.specs.Rows.{empty_row}
 use Rattle.mesh.specs.Table.{rows_of}
 use Rattle.grantfile.specs.Format.{ShapeOf, points_of, count_of, body_at, grant_at, point_at}
-use Rattle.grantfile.specs.Inner.{GrantRow, BodyFilled, FilledTo}
+use Rattle.grantfile.specs.Inner.{GrantRow, BodyFilled}
 use Rattle.grantfile.specs.Reading.{Filled}
+
+-- each grant of the first n devices stands in its row, and every other row of theirs is empty
+pub record FilledTo {W : Type 0} (k : Kind W) (n : ℕ) (file : List ℕ) (rows : List (Row W)) : Type 0 where
+  pub named : (d j : ℕ) (x : Row W) → d < n → j < count_of file d
+      → GrantRow k file (grant_at file d j) (get_or rows (d * points_of file + point_at file (grant_at file d j)) x)
+  pub others : (d p : ℕ) (x : Row W) → d < n → p < points_of file → ((j : ℕ) → j < count_of file d → point_at file (grant_at file d j) ≢ p)
+      → get_or rows (d * points_of file + p) x ≡ empty_row k
 
 -- the rows of a device come before those of a later one, and within those of all
 pub rows_after : (d e points : ℕ) → d < e → d * points + points ≤ e * points

@@ -1,6 +1,7 @@
 -- The first test that fails: in two lists after one another, and in a list made index by index.
-use Rattle.std.proofs.Common.{◌≡◌, ℕ, zero, suc, ◌+◌, ◌-◌, ◌<◌, ◌≤◌, Bool, true, false, cond, List, [], ◌∷◌, ◌++◌, map, IsErrAnd, Some, None, Err, Option, Result, sym, refl, ap, ◌∙◌, arith}
+use Rattle.std.proofs.Common.{◌≡◌, ℕ, zero, suc, ◌+◌, ◌-◌, ◌<◌, ◌≤◌, Bool, true, false, cond, List, [], ◌∷◌, ◌++◌, map, IsErrAnd, Some, None, Err, Option, Result, sym, refl, ap, ◌∙◌, subst, arith}
 use Rattle.std.specs.List.{range_with_len, flat_map}
+use Rattle.std.proofs.lemmas.List.Concat.{flat_map_single}
 use Rattle.std.proofs.lemmas.Result.{err_from_is_err_and}
 use Rattle.grantfile.specs.declared.fault.Fault.{Fault}
 use Rattle.grantfile.specs.Tests.{Test, first}
@@ -41,37 +42,27 @@ pub first_back : (xs ys : List Test) → first (xs ++ ys) ≡ None → first ys 
 first_back xs ys e = sym (first_past xs ys (first_front xs ys e)) ∙ e
 
 -- what is left of a count from i, at i and at the end
-pub counting_step : (i n : ℕ) → i < n → range_with_len i (n - i) ≡ i ∷ range_with_len (i + 1) (n - (i + 1))
+counting_step : (i n : ℕ) → i < n → range_with_len i (n - i) ≡ i ∷ range_with_len (i + 1) (n - (i + 1))
 counting_step i n h = let e : n - i ≡ suc (n - (i + 1)) = omega arith in ap (λ m. range_with_len i m) e
 
-pub counting_end : (i n : ℕ) → n ≤ i → range_with_len i (n - i) ≡ []
+counting_end : (i n : ℕ) → n ≤ i → range_with_len i (n - i) ≡ []
 counting_end i n h = let e : n - i ≡ 0 = omega arith in ap (λ m. range_with_len i m) e
 
--- tests one for each index: what is left, at i and at the end
-pub each_step : (T : ℕ → Test) (i n : ℕ) → i < n → first (map T (range_with_len i (n - i))) ≡ first (T i ∷ map T (range_with_len (i + 1) (n - (i + 1))))
-each_step T i n h = ap (λ is. first (map T is)) (counting_step i n h)
-
-pub each_end : (T : ℕ → Test) (i n : ℕ) → n ≤ i → first (map T (range_with_len i (n - i))) ≡ None
-each_end T i n h = ap (λ is. first (map T is)) (counting_end i n h)
-
--- where all pass, the one at k does
-each_at : (T : ℕ → Test) (i n k : ℕ) → k < n → first (map T (range_with_len i n)) ≡ None → (T (i + k)).fails ≡ false
-each_at T i zero k h e = absurd (omega arith)
-each_at T i (suc n) zero h e = let z : i + 0 ≡ i = omega arith in rw z (under (T i).fails (T i).fault (first (map T (range_with_len (i + 1) n))) e).0
-each_at T i (suc n) (suc k) h e =
-    let z : i + suc k ≡ (i + 1) + k = omega arith in
-    rw z (each_at T (i + 1) n k (omega arith) (under (T i).fails (T i).fault (first (map T (range_with_len (i + 1) n))) e).1)
-
-pub each_passed : (T : ℕ → Test) (n k : ℕ) → k < n → first (map T (range_with_len 0 n)) ≡ None → (T k).fails ≡ false
-each_passed T n k h e = let z : 0 + k ≡ k = omega arith in rw z at (each_at T 0 n k h e)
-
--- lists of tests one for each index, joined: what is left, at i and at the end
-pub joined_step : (T : ℕ → List Test) (i n : ℕ) → i < n → first (flat_map T (range_with_len i (n - i))) ≡ first (T i ++ flat_map T (range_with_len (i + 1) (n - (i + 1))))
+-- lists of tests one for each index, joined: where the one at i passes, the others decide; where it refuses, it does; and none is left at the end
+joined_step : (T : ℕ → List Test) (i n : ℕ) → i < n → first (flat_map T (range_with_len i (n - i))) ≡ first (T i ++ flat_map T (range_with_len (i + 1) (n - (i + 1))))
 joined_step T i n h = ap (λ is. first (flat_map T is)) (counting_step i n h)
+
+pub joined_past : (T : ℕ → List Test) (i n : ℕ) → i < n → first (T i) ≡ None
+    → first (flat_map T (range_with_len i (n - i))) ≡ first (flat_map T (range_with_len (i + 1) (n - (i + 1))))
+joined_past T i n h e = joined_step T i n h ∙ first_past (T i) (flat_map T (range_with_len (i + 1) (n - (i + 1)))) e
+
+pub joined_stop : (T : ℕ → List Test) (i n : ℕ) (f : Fault) → i < n → first (T i) ≡ Some f → first (flat_map T (range_with_len i (n - i))) ≡ Some f
+joined_stop T i n f h e = joined_step T i n h ∙ first_stop (T i) (flat_map T (range_with_len (i + 1) (n - (i + 1)))) f e
 
 pub joined_end : (T : ℕ → List Test) (i n : ℕ) → n ≤ i → first (flat_map T (range_with_len i (n - i))) ≡ None
 joined_end T i n h = ap (λ is. first (flat_map T is)) (counting_end i n h)
 
+-- where all pass, the one at k does
 joined_at : (T : ℕ → List Test) (i n k : ℕ) → k < n → first (flat_map T (range_with_len i n)) ≡ None → first (T (i + k)) ≡ None
 joined_at T i zero k h e = absurd (omega arith)
 joined_at T i (suc n) zero h e = let z : i + 0 ≡ i = omega arith in rw z (first_front (T i) (flat_map T (range_with_len (i + 1) n)) e)
@@ -81,3 +72,18 @@ joined_at T i (suc n) (suc k) h e =
 
 pub joined_passed : (T : ℕ → List Test) (n k : ℕ) → k < n → first (flat_map T (range_with_len 0 n)) ≡ None → first (T k) ≡ None
 joined_passed T n k h e = let z : 0 + k ≡ k = omega arith in rw z at (joined_at T 0 n k h e)
+
+-- where each passes, all do
+joined_from : (T : ℕ → List Test) (i n : ℕ) → ((j : ℕ) → j < n → first (T (i + j)) ≡ None) → first (flat_map T (range_with_len i n)) ≡ None
+joined_from T i zero h = refl
+joined_from T i (suc n) h =
+    let here : i + 0 ≡ i = omega arith in
+    first_past (T i) (flat_map T (range_with_len (i + 1) n)) (subst (λ m. first (T m) ≡ None) here (h 0 (omega arith)))
+    ∙ joined_from T (i + 1) n (λ j l. let z : i + suc j ≡ i + 1 + j = omega arith in subst (λ m. first (T m) ≡ None) z (h (suc j) (omega arith)))
+
+pub joined_none : (T : ℕ → List Test) (n : ℕ) → ((j : ℕ) → j < n → first (T j) ≡ None) → first (flat_map T (range_with_len 0 n)) ≡ None
+joined_none T n h = joined_from T 0 n (λ j l. let z : j ≡ 0 + j = omega arith in subst (λ m. first (T m) ≡ None) z (h j l))
+
+-- tests one for each index are lists of one test, joined
+pub each_joined : (F : ℕ → Test) (n : ℕ) → first (map F (range_with_len 0 n)) ≡ first (flat_map (λ i. F i ∷ []) (range_with_len 0 n))
+each_joined F n = sym (ap first (flat_map_single F (range_with_len 0 n)))

@@ -1,6 +1,5 @@
 -- A file passes all tests exactly if it is well formed, and rows enough are lent.
-use Rattle.std.proofs.Common.{◌≡◌, ℕ, zero, suc, ◌+◌, ◌-◌, ◌*◌, ◌<◌, ◌≤◌, Bool, true, false, not, T, ltb, leb, List, [], ◌∷◌, ◌++◌, map, length, is_some as option_is_some, Some, None, Ok, Err, Option, Result, sym, refl, ap, ◌∙◌, subst, arith}
-use Rattle.std.specs.List.{range_with_len, flat_map}
+use Rattle.std.proofs.Common.{◌≡◌, ℕ, zero, suc, ◌+◌, ◌-◌, ◌*◌, ◌<◌, ◌≤◌, IsErrAnd, Bool, true, false, not, T, ltb, leb, List, [], ◌∷◌, ◌++◌, length, is_some as option_is_some, Some, None, Ok, Err, Option, Result, sym, refl, ap, ◌∙◌, subst, arith}
 use Rattle.std.proofs.lemmas.Bool.{not-false, or_parts, or_from, and_right, and_left, ltb-false, eqb-true, le-ltb, lt-leb, eq-eqb, cond-false}
 use Rattle.mesh.specs.declared.right.Right.{Right}
 use Rattle.mesh.specs.declared.row.Row.{Row}
@@ -12,7 +11,7 @@ use Rattle.grantfile.specs.Format.{byte_at, devices_of, points_of, entry_at, sta
 use Rattle.grantfile.specs.Reading.{ReadInto}
 use Rattle.grantfile.specs.Tests.{Test, first, out_of_range, out_of_order, head_tests, rows_test, entry_test, entries_tests, end_test, contents_tests, grant_tests, body_tests, bodies_tests, all_tests}
 use Rattle.grantfile.proofs.Checks.{passed_start, passed_end}
-use Rattle.grantfile.proofs.Firsts.{under, first_past, first_front, first_back, joined_passed}
+use Rattle.grantfile.proofs.Firsts.{handed_on, under, first_past, first_front, first_back, joined_passed, joined_none, each_joined}
 use Rattle.grantfile.proofs.Places.{body_first, body_rises}
 use Rattle.grantfile.proofs.Written.{ordered}
 
@@ -78,24 +77,6 @@ formed k lent file e =
 
 -- ---- from a well-formed file to passed tests
 
-each_none : (F : ℕ → Test) (i n : ℕ) → ((j : ℕ) → j < n → (F (i + j)).fails ≡ false) → first (map F (range_with_len i n)) ≡ None
-each_none F i zero h = refl
-each_none F i (suc n) h =
-    let here : i + 0 ≡ i = omega arith in
-    cond-false (F i).fails (Some (F i).fault) _ (subst (λ m. (F m).fails ≡ false) here (h 0 (omega arith)))
-    ∙ each_none F (i + 1) n (λ j l. let z : i + suc j ≡ i + 1 + j = omega arith in subst (λ m. (F m).fails ≡ false) z (h (suc j) (omega arith)))
-
-joined_none : (F : ℕ → List Test) (i n : ℕ) → ((j : ℕ) → j < n → first (F (i + j)) ≡ None) → first (flat_map F (range_with_len i n)) ≡ None
-joined_none F i zero h = refl
-joined_none F i (suc n) h =
-    let here : i + 0 ≡ i = omega arith in
-    first_past (F i) (flat_map F (range_with_len (i + 1) n)) (subst (λ m. first (F m) ≡ None) here (h 0 (omega arith)))
-    ∙ joined_none F (i + 1) n (λ j l. let z : i + suc j ≡ i + 1 + j = omega arith in subst (λ m. first (F m) ≡ None) z (h (suc j) (omega arith)))
-
--- counted from 0
-at_zero : (P : ℕ → Type 0) (j : ℕ) → P j → P (0 + j)
-at_zero P j p = let z : j ≡ 0 + j = omega arith in subst P z p
-
 is_in_range : (n : ℕ) → 1 ≤ n → n ≤ 64 → out_of_range n ≡ false
 is_in_range n a b = or_from _ _ (le-ltb n 1 a) (le-ltb 64 n b)
 
@@ -124,18 +105,16 @@ contents_pass : {W : Type 0} (k : Kind W) (file : List ℕ) → WellFormed k fil
 contents_pass k file w =
     let first_body = body_first file in
     let rise = body_rises file 0 (devices_of file) (omega arith) in
-    let end = w.ends in
-    cond-false _ _ _ (le-ltb (length file) (entry_at (devices_of file)) (omega arith))
-    ∙ first_past (entries_tests file) (end_test file ∷ [])
-    (each_none (entry_test file) 0 (devices_of file) (λ d l. at_zero (λ m. (entry_test file m).fails ≡ false) d (ap not (eq-eqb (start_of file d) (body_at file d) (w.starts d l)))))
-    ∙ pass_all (end_test file ∷ []) (ap not (eq-eqb (length file) (body_at file (devices_of file)) end), tt)
+    let starts = λ (d : ℕ) (l : d < devices_of file). pass_all (entry_test file d ∷ []) (ap not (eq-eqb (start_of file d) (body_at file d) (w.starts d l)), tt) in
+    let ends = ap not (eq-eqb (length file) (body_at file (devices_of file)) w.ends) in
+    cond-false _ _ _ (le-ltb (length file) (entry_at (devices_of file)) (let e = w.ends in omega arith))
+    ∙ first_past (entries_tests file) (end_test file ∷ []) (each_joined (entry_test file) (devices_of file) ∙ joined_none (λ d. entry_test file d ∷ []) (devices_of file) starts)
+    ∙ pass_all (end_test file ∷ []) (ends, tt)
 
 bodies_pass : {W : Type 0} (k : Kind W) (file : List ℕ) → WellFormed k file → first (bodies_tests k file) ≡ None
 bodies_pass k file w =
-    joined_none (body_tests k file) 0 (devices_of file)
-    (λ d l. at_zero (λ m. first (body_tests k file m) ≡ None) d
-    (joined_none (grant_tests k file (body_at file d)) 0 (count_of file d)
-    (λ j m. at_zero (λ i. first (grant_tests k file (body_at file d) i) ≡ None) j (grant_passes k file d j w (l, m)))))
+    joined_none (body_tests k file) (devices_of file)
+    (λ d l. joined_none (grant_tests k file (body_at file d)) (count_of file d) (λ j m. grant_passes k file d j w (l, m)))
 
 pub passes : {W : Type 0} (k : Kind W) (lent : ℕ) (file : List ℕ) → WellFormed k file → devices_of file * points_of file ≤ lent → first (all_tests k lent file) ≡ None
 passes k lent file w enough =
@@ -162,3 +141,8 @@ accepts k file before after (Err f) h = λ w enough.
     let passed = passes k (length before) file w enough in
     let z : ◌≡◌ {A = ℕ} 0 1 = cc in
     omega arith
+
+-- a fault that is handed on
+pub refused : {W : Type 0} (k : Kind W) (file : List ℕ) (rows : List (Row W)) (r : Result Shape Fault) (f : Fault) → IsErrAnd r (λ e. e ≡ f)
+    → first (all_tests k (length rows) file) ≡ Some f → ReadInto k file rows rows r × Accepts k (length rows) file r
+refused k file rows r f h e = let read : ReadInto k file rows rows r = rw (handed_on r f h) (e, refl) in (read, accepts k file rows rows r read)

@@ -1,6 +1,7 @@
 -- Rows as the grants of a body are written into them, one by one.
-use Rattle.std.proofs.Common.{◌≡◌, ℕ, zero, suc, ◌+◌, ◌-◌, ◌*◌, ◌<◌, true, false, ltb, leb, ◌≢◌, ◌⊎◌, List, length, get_or, set, is_ok, None, Ok, Err, Result, sym, refl, ap, ◌∙◌, subst, inl, inr, arith, length-set}
-use Rattle.std.specs.List.{range_with_len, flat_map}
+use Rattle.std.proofs.Common.{◌≡◌, ℕ, zero, suc, ◌+◌, ◌-◌, ◌*◌, ◌<◌, true, false, ltb, leb, ◌≢◌, ◌⊎◌, List, [], ◌∷◌, length, get_or, set, is_ok, None, Ok, Err, Result, sym, refl, ap, ◌∙◌, subst, inl, inr, arith, length-set}
+use Rattle.std.specs.List.{FoldsTo}
+use Rattle.std.specs.Result.{result_err}
 use Rattle.std.proofs.lemmas.List.{get_or-set_same, get_or-set_other}
 use Rattle.std.proofs.lemmas.Bool.{cases_eq, or_parts, and_cases, leb-false, ltb-false}
 use Rattle.mesh.specs.declared.row.Row.{Row}
@@ -8,8 +9,8 @@ use Rattle.mesh.specs.Kind.{Kind}
 use Rattle.mesh.specs.Rows.{empty_row}
 use Rattle.grantfile.specs.declared.fault.Fault.{Fault}
 use Rattle.grantfile.specs.Format.{point_at, points_of}
-use Rattle.grantfile.specs.Inner.{GrantRow, GrantRead, BodyFilled, Cleared}
-use Rattle.grantfile.specs.Tests.{first, out_of_order, grant_tests}
+use Rattle.grantfile.specs.Inner.{GrantRow, BodyFilled, grants_tests}
+use Rattle.grantfile.specs.Tests.{Test, first, out_of_order, grant_tests}
 use Rattle.grantfile.proofs.Firsts.{under, joined_passed}
 
 -- a grant that passes: its point is in the table, and above that of the grant before it
@@ -37,39 +38,31 @@ rises f n h i (suc j) l m =
     go (inr ne) r s = let d : i < j = omega (arith, ne) in let q = r d (omega arith) in omega arith
 
 -- the points of a body that passes
-pub points_inside : {W : Type 0} (k : Kind W) (file : List ℕ) (start n j : ℕ) → first (flat_map (grant_tests k file start) (range_with_len 0 n)) ≡ None → j < n
+pub points_inside : {W : Type 0} (k : Kind W) (file : List ℕ) (start n j : ℕ) → first (grants_tests k file start n) ≡ None → j < n
     → point_at file (start + 6 * j) < points_of file
 points_inside k file start n j e h =
     (ordered file start j (under _ _ _ (joined_passed (grant_tests k file start) n j h e)).0).0
 
-pub points_rise : {W : Type 0} (k : Kind W) (file : List ℕ) (start n i j : ℕ) → first (flat_map (grant_tests k file start) (range_with_len 0 n)) ≡ None → i < j → j < n
+pub points_rise : {W : Type 0} (k : Kind W) (file : List ℕ) (start n i j : ℕ) → first (grants_tests k file start n) ≡ None → i < j → j < n
     → point_at file (start + 6 * i) < point_at file (start + 6 * j)
 points_rise k file start n i j e l h =
     rises (λ m. point_at file (start + 6 * m)) n (λ m b. (ordered file start m (under _ _ _ (joined_passed (grant_tests k file start) n m b e)).0).1) i j l h
 
 -- a grant whose tests pass is read
-pub grant_read : {W : Type 0} (k : Kind W) (file : List ℕ) (start n j : ℕ) (r : Result (Row W) Fault)
-    → first (flat_map (grant_tests k file start) (range_with_len 0 n)) ≡ None → j < n → GrantRead k file start j r → is_ok r ≡ true
-grant_read k file start n j (Ok row) e h g = refl
-grant_read k file start n j (Err f) e h g =
-    let p = joined_passed (grant_tests k file start) n j h e in
-    absurd (let z : ◌≡◌ {A = ℕ} 0 1 = cc in omega arith)
+pub grant_read : {X : Type 0} (ts : List Test) (r : Result X Fault) → first ts ≡ None → first ts ≡ result_err r → is_ok r ≡ true
+grant_read ts (Ok row) e g = refl
+grant_read ts (Err f) e g = absurd (let z : ◌≡◌ {A = ℕ} 0 1 = cc in omega arith)
 
-pub granted_row : {W : Type 0} (k : Kind W) (file : List ℕ) (start j : ℕ) (r : Result (Row W) Fault) (row : Row W)
-    → r ≡ Ok row → GrantRead k file start j r → GrantRow k file (start + 6 * j) row
-granted_row k file start j r row e g = (subst (λ s. GrantRead k file start j s) e g).1
-
--- one more row is made empty
-pub cleared_more : {W : Type 0} (k : Kind W) (rows : List (Row W)) (n : ℕ) (row : Row W) → ((i : ℕ) (x : Row W) → i < n → get_or rows i x ≡ empty_row k)
-    → n < length rows → row ≡ empty_row k → (i : ℕ) (x : Row W) → i < n + 1 → get_or (set rows n row) i x ≡ empty_row k
-cleared_more k rows n row h l e i x m = go (cases_eq i n)
-  where
-    go : (i ≡ n) ⊎ (i ≡ n → ⊥) → get_or (set rows n row) i x ≡ empty_row k
-    go (inl q) = rw q (get_or-set_same rows n row x l ∙ e)
-    go (inr ne) = get_or-set_other rows n i row x ne ∙ h i x (omega (arith, ne))
+-- rows that are all made by the same call
+pub all_made : {P X : Type 0} (R : P → X → P → Type 0) (p : P) (row : X) → ((x : X) (q : P) → R p x q → (x ≡ row) × (q ≡ p))
+    → (xs : List X) (q : P) → FoldsTo R p xs q → (i : ℕ) (x : X) → i < length xs → get_or xs i x ≡ row
+all_made R p row says [] q f i x h = absurd (omega arith)
+all_made R p row says (y ∷ ys) q f zero x h = (says y f.0 f.1).0
+all_made R p row says (y ∷ ys) q f (suc i) x h = all_made R p row says ys q (subst (λ s. FoldsTo R s ys q) (says y f.0 f.1).1 f.2) i x (omega arith)
 
 -- no grant is written yet
-pub none_filled : {W : Type 0} (k : Kind W) (file : List ℕ) (start : ℕ) (rows : List (Row W)) → Cleared k rows → BodyFilled k file start 0 rows
+pub none_filled : {W : Type 0} (k : Kind W) (file : List ℕ) (start : ℕ) (rows : List (Row W))
+    → ((i : ℕ) (x : Row W) → i < length rows → get_or rows i x ≡ empty_row k) → BodyFilled k file start 0 rows
 none_filled k file start rows h = record { named = λ j x l. absurd (omega arith); others = λ p x l none. h p x l }
 
 -- one more grant is written

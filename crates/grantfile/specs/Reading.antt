@@ -1,8 +1,7 @@
 -- What the reader's calls answer, and what they leave.
 --     EntryRead bytes s n rest    the contents entry at the front of the bytes: start, count, and the bytes that follow
 --     Headed kind file r          the head is checked
---     Opened kind file r          head, contents and end are checked, and the file is held with the number of its devices
---     Sound g                     the file is one whose contents and end pass, as every file is that was opened
+--     Opened kind file r          head, contents and end are checked, and the file is held with the shape that it names
 --     Shown file d r              the body of device d, as a part of the file
 --     Filled k s file rows        each grant of the file stands in its row, and every other row of the table is empty
 --     ReadInto k file m m' r      the whole file is checked, and then the rows filled, m before and m' after
@@ -34,11 +33,8 @@ Headed kind file (Err f) = first (head_tests kind file) ≡ Some f
 abbrev pub Opened : ℕ → List ℕ → Result GrantFile Fault → Type 0
 Opened kind file (Ok g) =
     (first (head_tests kind file ++ contents_tests file) ≡ None)
-    × (g.bytes.now ≡ file) × (g.devices ≡ devices_of file)
+    × (g.bytes.now ≡ file) × ShapeOf file g.shape
 Opened kind file (Err f) = first (head_tests kind file ++ contents_tests file) ≡ Some f
-
-abbrev pub Sound : GrantFile → Type 0
-Sound g = (first (contents_tests g.bytes.now) ≡ None) × (g.devices ≡ devices_of g.bytes.now)
 
 -- a device outside the table is refused at place 0
 abbrev pub Shown : List ℕ → ℕ → Result Body Fault → Type 0

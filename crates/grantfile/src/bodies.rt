@@ -1,104 +1,100 @@
-// The bodies of a file, grant by grant.
-ghost use Rattle.std.specs.Prelude.{◌≡◌, ◌+◌, ◌*◌, ◌≤◌, not, length, None};
-ghost use Rattle.grantfile.specs.Format.{devices_of, points_of, word_at, long_at};
-ghost use Rattle.grantfile.specs.Inner.{BodiesChecked, BodyChecked, GrantRead};
-ghost use Rattle.grantfile.specs.Tests.{contents_tests, first, out_of_order};
+// The grants of a body, one by one.
+ghost use Rattle.std.specs.Prelude.{◌≡◌, ◌+◌, ◌*◌, ◌≤◌, length};
+ghost use Rattle.grantfile.specs.Format.{points_of};
 
-use super::entries::entry;
 use super::fault::{Fault, Layer};
 use mesh::refusal::Refusal;
 use mesh::right::Right;
 use mesh::row::Row;
 use mesh::weight::Weight;
 
-// The number in two bytes, high byte first.
-fn word(file: &[u8], at: usize) -> u16
-    requires { at + 2 ≤ length file.now }
-    ensures value { result ≡ word_at file.now at }
-{
-    file[at] as u16 * 256 + file[at + 1] as u16
+// The grants of one body: the file and the points of its table, where the body starts, and how many grants it has.
+#[derive(Clone, Copy)]
+pub(super) struct Grants<'a> {
+    pub(super) file: &'a [u8],
+    pub(super) points: usize,
+    pub(super) start: usize,
+    pub(super) count: usize,
+    ghost named: { points ≡ points_of file.now },
+    ghost within: { start + 6 * count ≤ length file.now },
 }
 
-// The number in four bytes, high byte first.
-fn long(file: &[u8], at: usize) -> u32
-    requires { at + 4 ≤ length file.now }
-    ensures value { result ≡ long_at file.now at }
-{
-    word(file, at) as u32 * 65536 + word(file, at + 2) as u32
-}
+impl<'a> Grants<'a> {
+    ghost use Rattle.std.specs.Prelude.{◌<◌, IfOk, None, drop, not, take};
+    ghost use Rattle.std.specs.Result.{result_err};
+    ghost use Rattle.grantfile.specs.Format.{point_at};
+    ghost use Rattle.grantfile.specs.Inner.{BodyFilled, GrantRow, grants_tests};
+    ghost use Rattle.grantfile.specs.Tests.{first, grant_tests, out_of_order};
 
-// Whether the point of the grant `j` of the body from `start` on is in the table, and above that of the grant
-// before it.
-fn in_order(file: &[u8], points: usize, start: usize, j: usize) -> bool
-    requires points { points ≡ points_of file.now }
-    requires within { start + 6 * j + 6 ≤ length file.now }
-    ensures value { not result ≡ out_of_order file.now start j }
-{
-    let point = file[start + 6 * j];
-    (point as usize) < points && (j == 0 || file[start + 6 * (j - 1)] < point)
-}
-
-// The row of the grant `j` of the body from `start` on; refused 8, 9 or 10, in this order. Constant time.
-pub(super) fn grant<W: Weight>(
-    file: &[u8],
-    points: usize,
-    start: usize,
-    j: usize,
-) -> Result<Row<W>, Fault>
-    requires points { points ≡ points_of file.now }
-    requires within { start + 6 * j + 6 ≤ length file.now }
-    ensures cases { GrantRead W.Weight.meaning file.now start j result }
-{
-    let place = start + 6 * j;
-    if !in_order(file, points, start, j) {
-        return Err(Fault::of(Layer::Body, Refusal::OutsideTable, place));
+    // The bytes of the body. Constant time.
+    pub(super) fn bytes(&self) -> &'a [u8]
+        ensures value { result.now ≡ take (6 * self.now.count) (drop self.now.start self.now.file.now) }
+    {
+        &self.file[self.start..self.start + 6 * self.count]
     }
-    let right = Right::try_from(file[place + 1]).map_err(|why| Fault::of(
-        Layer::Body,
-        why,
-        place + 1,
-    ))?;
-    let weight = W::make(long(file, place + 2)).map_err(|why| Fault::of(
-        Layer::Weight,
-        why,
-        place + 2,
-    ))?;
-    Ok(Row::grant(right, weight))
-}
 
-// Checks `count` grants of the body from `start` on, each by 8, 9 and 10 before the next. One step for each grant.
-fn check_body<W: Weight>(
-    file: &[u8],
-    points: usize,
-    start: usize,
-    count: usize,
-) -> Result<(), Fault>
-    requires points { points ≡ points_of file.now }
-    requires within { start + 6 * count ≤ length file.now }
-    ensures cases { BodyChecked W.Weight.meaning file.now start count result }
-{
-    for j in 0..count {
-        grant::<W>(file, points, start, j)?;
+    // The point of the grant `j`. Constant time.
+    fn point(&self, j: usize) -> u8
+        requires { j < self.now.count }
+        ensures value { result ≡ point_at self.now.file.now (self.now.start + 6 * j) }
+    {
+        self.file[self.start + 6 * j]
     }
-    Ok(())
-}
 
-// Checks the bodies of a file whose contents pass, device by device. One step for each device and grant.
-pub(super) fn check_bodies<W: Weight>(
-    file: &[u8],
-    devices: usize,
-    points: usize,
-) -> Result<(), Fault>
-    requires devices { devices ≡ devices_of file.now }
-    requires points { points ≡ points_of file.now }
-    requires contents { first (contents_tests file.now) ≡ None }
-    ensures cases { BodiesChecked W.Weight.meaning file.now result }
-{
-    let mut rest = &file[4..];
-    for _ in 0..devices {
-        let (start, count, after) = entry(rest);
-        check_body::<W>(file, points, start as usize, count as usize)?;
-        rest = after;
+    // Whether the point of the grant `j` is in the table, and above that of the grant before it. Constant time.
+    fn in_order(&self, j: usize) -> bool
+        requires { j < self.now.count }
+        ensures value { not result ≡ out_of_order self.now.file.now self.now.start j }
+    {
+        let point = self.point(j);
+        usize::from(point) < self.points && (j == 0 || self.point(j - 1) < point)
     }
-    Ok(())
+
+    // The row of the grant `j`; refused 8, 9 or 10, in this order. Constant time.
+    fn row<W: Weight>(&self, j: usize) -> Result<Row<W>, Fault>
+        requires { j < self.now.count }
+        ensures cases { first (grant_tests W.Weight.meaning self.now.file.now self.now.start j) ≡ result_err result }
+        ensures row { IfOk result (GrantRow W.Weight.meaning self.now.file.now (self.now.start + 6 * j)) }
+    {
+        let place = self.start + 6 * j;
+        if !self.in_order(j) {
+            return Err(Fault::of(Layer::Body, Refusal::OutsideTable, place));
+        }
+        let [_, letter, a, b, c, d] = *self.file[place..].first_chunk::<6>().unwrap();
+        let right = Right::of_grant(letter).ok_or(Fault::of(
+            Layer::Body,
+            Refusal::WrongRight,
+            place + 1,
+        ))?;
+        let weight = W::make(u32::from_be_bytes([a, b, c, d])).map_err(|why| Fault::of(
+            Layer::Weight,
+            why,
+            place + 2,
+        ))?;
+        Ok(Row::grant(right, weight))
+    }
+
+    // Checks the grants, each by 8, 9 and 10 before the next. One step for each grant.
+    pub(super) fn check<W: Weight>(&self) -> Result<(), Fault>
+        ensures cases { first (grants_tests W.Weight.meaning self.now.file.now self.now.start self.now.count) ≡ result_err result }
+    {
+        for j in 0..self.count {
+            self.row::<W>(j)?;
+        }
+        Ok(())
+    }
+
+    // Makes the rows of the body's device empty, and then writes each grant, all of which pass, whole into its row. One
+    // step for each row and grant.
+    pub(super) fn fill<W: Weight>(&self, rows: &mut [Row<W>])
+        requires points { length rows.old ≡ points_of self.now.file.now }
+        requires passed { first (grants_tests W.Weight.meaning self.now.file.now self.now.start self.now.count) ≡ None }
+        ensures after { BodyFilled W.Weight.meaning self.now.file.now self.now.start self.now.count rows.new }
+    {
+        let empty = Row::empty();
+        rows.fill_with(|| empty);
+        for j in 0..self.count {
+            rows[usize::from(self.point(j))] = self.row(j).unwrap();
+        }
+    }
 }

@@ -1,18 +1,33 @@
-// A file whose head, contents and end are checked, and the bodies in it.
-ghost use Rattle.std.specs.Prelude.{IfOk};
-ghost use Rattle.grantfile.specs.Inner.{PartOf};
-ghost use Rattle.grantfile.specs.Reading.{Opened, Shown, Sound};
+// A file whose head passes, the same file once its contents and end pass too, and the bodies in it.
+ghost use Rattle.std.specs.Prelude.{◌≡◌, ◌≤◌, None, length};
+ghost use Rattle.grantfile.specs.Format.{ShapeOf, devices_of, entry_at};
+ghost use Rattle.grantfile.specs.Tests.{contents_tests, first};
 
-use super::entries::{check_contents, entry};
+use super::bodies::Grants;
+use super::entries::entry_of;
 use super::fault::{Fault, Layer};
 use super::heading::head;
 use mesh::refusal::Refusal;
+use mesh::row::Row;
+use mesh::shape::Shape;
+use mesh::weight::Weight;
 
-// The bytes of a file, and the number of devices that they name. Only `open` makes one.
+// The bytes of a file whose head passes, and the shape that it names. Only `new` makes one.
+#[derive(Clone, Copy)]
+pub(super) struct HeadedFile<'a> {
+    bytes: &'a [u8],
+    pub(super) shape: Shape,
+    ghost named: { ShapeOf bytes.now shape },
+}
+
+// The bytes of a file whose head, contents and end pass, and the shape that it names. Only `open` makes one, and
+// `read` for itself.
 #[derive(Clone, Copy)]
 pub struct GrantFile<'a> {
     bytes: &'a [u8],
-    devices: u8,
+    pub(super) shape: Shape,
+    ghost named: { ShapeOf bytes.now shape },
+    ghost sound: { first (contents_tests bytes.now) ≡ None },
 }
 
 // A device's body as a part of its file, and the place in the file at which it starts.
@@ -22,46 +37,130 @@ pub struct Body<'a> {
     pub place: usize,
 }
 
+impl<'a> HeadedFile<'a> {
+    ghost use Rattle.std.specs.Prelude.{IfOk};
+    ghost use Rattle.std.specs.Result.{result_err};
+    ghost use Rattle.grantfile.specs.Inner.{EntriesChecked};
+    ghost use Rattle.grantfile.specs.Tests.{head_tests};
+
+    // The file in the bytes, its kind to be `kind`; refused 1, 2 or 3, in this order. Constant time.
+    pub(super) fn new(kind: u8, bytes: &'a [u8]) -> Result<HeadedFile<'a>, Fault>
+        ensures cases { first (head_tests kind bytes.now) ≡ result_err result }
+        ensures bytes { IfOk result (λ file. file.bytes.now ≡ bytes.now) }
+    {
+        let shape = head(kind, bytes)?;
+        Ok(HeadedFile { bytes, shape })
+    }
+
+    // The end of the last body, where each entry starts where the body before it ends; else refused 6 at the first
+    // entry that does not. One step for each device.
+    fn end(self) -> Result<usize, Fault>
+        requires { entry_at (devices_of self.bytes.now) ≤ length self.bytes.now }
+        ensures cases { EntriesChecked self.entry.bytes.now result }
+    {
+        let devices = self.shape.devices();
+        let mut end = 4 + 3 * devices;
+        for device in 0..devices {
+            let (start, count) = entry_of(self.bytes, device);
+            if usize::from(start) != end {
+                return Err(Fault::of(Layer::Contents, Refusal::WrongStart, 4 + 3 * device));
+            }
+            end += 6 * usize::from(count);
+        }
+        Ok(end)
+    }
+
+    // The file once its contents are found whole (else refused 5), each entry to start where the body before it ends
+    // (6), and the last body to end with the file (7), in this order. One step for each device.
+    pub(super) fn checked(self) -> Result<GrantFile<'a>, Fault>
+        ensures cases { first (contents_tests self.entry.bytes.now) ≡ result_err result }
+        ensures bytes { IfOk result (λ file. file.bytes.now ≡ self.entry.bytes.now) }
+    {
+        let len = self.bytes.len();
+        if len < 4 + 3 * self.shape.devices() {
+            return Err(Fault::of(Layer::Contents, Refusal::ShortContents, len));
+        }
+        let end = self.end()?;
+        if len != end {
+            return Err(Fault::of(Layer::Contents, Refusal::WrongEnd, len.min(end)));
+        }
+        Ok(GrantFile {
+            bytes: self.bytes,
+            shape: self.shape,
+        })
+    }
+}
+
 impl<'a> GrantFile<'a> {
+    ghost use Rattle.std.specs.Prelude.{◌<◌, drop};
+    ghost use Rattle.std.specs.Result.{result_err};
+    ghost use Rattle.mesh.specs.Table.{rows_of};
+    ghost use Rattle.grantfile.specs.Format.{body_at, count_of};
+    ghost use Rattle.grantfile.specs.Reading.{Filled, Opened, Shown};
+    ghost use Rattle.grantfile.specs.Tests.{bodies_tests};
+
     // The file in the bytes, its kind to be `kind`; refused 1, 2, 3, 5, 6 or 7, in this order, as the head, the
     // contents and the end are checked. One step for each device.
     pub fn open(kind: u8, bytes: &'a [u8]) -> Result<GrantFile<'a>, Fault>
         ensures cases { Opened kind bytes.now result }
-        ensures sound { IfOk result Sound }
     {
-        let shape = head(kind, bytes)?;
-        check_contents(bytes, shape.devices())?;
-        Ok(GrantFile {
-            bytes,
-            devices: shape.devices() as u8,
+        HeadedFile::new(kind, bytes)?.checked()
+    }
+
+    // The grants of a device in the table. Constant time.
+    pub(super) fn grants(&self, device: usize) -> Grants<'a>
+        requires { device < devices_of self.now.bytes.now }
+        ensures file { result.file.now ≡ self.now.bytes.now }
+        ensures start { result.start ≡ body_at self.now.bytes.now device }
+        ensures count { result.count ≡ count_of self.now.bytes.now device }
+    {
+        let (start, count) = entry_of(self.bytes, device);
+        Grants {
+            file: self.bytes,
+            points: self.shape.points(),
+            start: usize::from(start),
+            count: usize::from(count),
+        }
+    }
+
+    // The body of a device, as a part of the file; outside the table refused 8 at place 0. Constant time.
+    pub fn body(&self, device: u8) -> Result<Body<'a>, Fault>
+        ensures cases { Shown self.now.bytes.now device result }
+    {
+        let device = usize::from(device);
+        if device >= self.shape.devices() {
+            return Err(Fault::of(Layer::Body, Refusal::OutsideTable, 0));
+        }
+        let grants = self.grants(device);
+        Ok(Body {
+            bytes: grants.bytes(),
+            place: grants.start,
         })
     }
 
-    // The body of a device, as a part of the file; outside the table refused 8 at place 0. For a file that `open`
-    // gave, which is sound, the tests of the file's length never refuse. Constant time.
-    pub fn body(&self, device: u8) -> Result<Body<'a>, Fault>
-        ensures cases { Sound self.now → Shown self.now.bytes.now device result }
+    // Checks the bodies, device by device; refused 8, 9 or 10 at the first grant that does not pass. One step for each
+    // device and grant.
+    pub(super) fn check<W: Weight>(&self) -> Result<(), Fault>
+        ensures cases { first (bodies_tests W.Weight.meaning self.now.bytes.now) ≡ result_err result }
     {
-        let outside = Fault::of(Layer::Body, Refusal::OutsideTable, 0);
-        let at = 4 + 3 * device as usize;
-        if device >= self.devices || at > self.bytes.len() {
-            return Err(outside);
+        for device in 0..self.shape.devices() {
+            self.grants(device).check::<W>()?;
         }
-        let (start, count, _) = entry(&self.bytes[at..]);
-        let place = start as usize;
-        match part(self.bytes, place, 6 * count as usize) {
-            Some(bytes) => Ok(Body { bytes, place }),
-            None => Err(outside),
-        }
+        Ok(())
     }
-}
 
-// So many bytes from a place on, if there are as many.
-fn part(bytes: &[u8], place: usize, n: usize) -> Option<&[u8]>
-    ensures cases { PartOf bytes.now place n result }
-{
-    if place > bytes.len() || n > bytes.len() - place {
-        return None;
+    // Fills the rows of the table, device by device, where the bodies pass, and leaves the rows past the table. One
+    // step for each row and grant.
+    pub(super) fn fill<W: Weight>(&self, rows: &mut [Row<W>])
+        requires lent { rows_of self.now.shape ≤ length rows.old }
+        requires passed { first (bodies_tests W.Weight.meaning self.now.bytes.now) ≡ None }
+        ensures table { Filled W.Weight.meaning self.now.shape self.now.bytes.now rows.new }
+        ensures beyond { drop (rows_of self.now.shape) rows.new ≡ drop (rows_of self.now.shape) rows.old }
+    {
+        let points = self.shape.points();
+        for device in 0..self.shape.devices() {
+            let at = device * points;
+            self.grants(device).fill(&mut rows[at..at + points]);
+        }
     }
-    Some(&bytes[place..place + n])
 }

@@ -15,13 +15,10 @@ pub fn head(kind: u8, file: &[u8]) -> Result<Shape, Fault>
             if *found != kind {
                 return Err(Fault::of(Layer::Head, Refusal::WrongHead, 1));
             }
-            match Shape::new(*devices, *points) {
-                Ok(shape) => Ok(shape),
-                Err(why) => {
-                    let place = if *devices < 1 || *devices > 64 { 2 } else { 3 };
-                    Err(Fault::of(Layer::Head, why, place))
-                }
-            }
+            Shape::new(*devices, *points).map_err(|why| {
+                let place = if *devices < 1 || *devices > 64 { 2 } else { 3 };
+                Fault::of(Layer::Head, why, place)
+            })
         }
         [_, _, _, _, ..] => Err(Fault::of(Layer::Head, Refusal::WrongHead, 0)),
         _ => Err(Fault::of(Layer::Head, Refusal::ShortFile, file.len())),

@@ -5,6 +5,5 @@ mod bodies;
 pub mod entries;
 pub mod fault;
 pub mod file;
-mod filling;
 pub mod heading;
 pub mod reading;

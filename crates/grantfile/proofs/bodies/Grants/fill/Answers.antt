@@ -1,0 +1,42 @@
+-- One more grant is written.
+use Rattle.std.proofs.Common.{◌≡◌, ℕ, ◌+◌, ◌*◌, ◌<◌, ◌∙◌, length, subst, arith, rules}
+use Rattle.std.proofs.lemmas.Result.{IfOk-at_ok}
+use Rattle.grantfile.specs.Format.{point_at}
+use Rattle.grantfile.specs.Inner.{BodyFilled}
+use Rattle.grantfile.specs.Tests.{grant_tests}
+use Rattle.mesh.specs.Rows.{empty_row}
+use Rattle.grantfile.proofs.Firsts.{joined_passed}
+use Rattle.grantfile.proofs.Written.{none_filled, more_filled, grant_read, all_made, points_inside, points_rise}
+use Rattle.grantfile.proofs.bodies.Grants.fill.Goals as goal
+
+pub loop-j-init : goal.loop-j-init
+loop-j-init g c =
+    let body = c.args.self.now in
+    none_filled g.W.Weight.meaning body.file.now body.start c.fill_with.new.self
+    (all_made _ _ (empty_row g.W.Weight.meaning) (λ x q h. (search rules, search rules)) _ _ c.fill_with.ensures.ran.1)
+
+pub unwrap-requires : goal.unwrap-requires
+unwrap-requires g c =
+    let body = c.args.self.now in
+    let tests = grant_tests g.W.Weight.meaning body.file.now body.start in
+    grant_read (tests c.loop-j.j) c.row.result (joined_passed tests body.count c.loop-j.j c.loop-j-test.true c.requires.passed) c.row.ensures.cases
+
+pub loop-j-preserved : goal.loop-j-preserved
+loop-j-preserved g c =
+    let k = g.W.Weight.meaning in
+    let body = c.args.self.now in
+    let j = c.loop-j.j in
+    let p = points_inside k body.file.now body.start body.count j c.requires.passed c.loop-j-test.true in
+    let h : point_at body.file.now (body.start + 6 * j) < length c.loop-j.rows = omega (arith, c.requires.points) in
+    let e : c.from.result ≡ point_at body.file.now (body.start + 6 * j) = c.from.ensures ∙ c.point.ensures.value in
+    rw e
+    (more_filled k body.file.now body.start j c.loop-j.rows c.unwrap.result c.loop-j.invariant h
+    (λ i l. points_rise k body.file.now body.start body.count i j c.requires.passed l c.loop-j-test.true)
+    (IfOk-at_ok _ c.unwrap.ensures c.row.ensures.row))
+
+pub returns : goal.returns
+returns g c =
+    let body = c.args.self.now in
+    let n : c.loop-j.j ≡ body.count = omega arith in
+    let P : ℕ → Type 0 = λ m. BodyFilled g.W.Weight.meaning body.file.now body.start m c.loop-j.rows in
+    record { after = subst P n c.loop-j.invariant }
