@@ -33,45 +33,35 @@ impl<'a> Grants<'a> {
         &self.file[self.start..self.start + 6 * self.count]
     }
 
-    // The point of the grant `j`. Constant time.
-    fn point(&self, j: usize) -> u8
-        requires { j < self.now.count }
-        ensures value { result ≡ point_at self.now.file.now (self.now.start + 6 * j) }
-    {
-        self.file[self.start + 6 * j]
-    }
-
     // Whether the point of the grant `j` is in the table, and above that of the grant before it. Constant time.
     fn in_order(&self, j: usize) -> bool
         requires { j < self.now.count }
         ensures value { not result ≡ out_of_order self.now.file.now self.now.start j }
     {
-        let point = self.point(j);
-        usize::from(point) < self.points && (j == 0 || self.point(j - 1) < point)
+        let place = self.start + 6 * j;
+        let point = self.file[place];
+        usize::from(point) < self.points && (j == 0 || self.file[place - 6] < point)
     }
 
-    // The row of the grant `j`; refused 8, 9 or 10, in this order. Constant time.
-    fn row<W: Weight>(&self, j: usize) -> Result<Row<W>, Fault>
+    // The point and the row of the grant `j`; refused 8, 9 or 10, in this order. Constant time.
+    fn grant<W: Weight>(&self, j: usize) -> Result<(u8, Row<W>), Fault>
         requires { j < self.now.count }
         ensures cases { first (grant_tests W.Weight.meaning self.now.file.now self.now.start j) ≡ result_err result }
-        ensures row { IfOk result (GrantRow W.Weight.meaning self.now.file.now (self.now.start + 6 * j)) }
+        ensures point { IfOk result (λ grant. grant.0 ≡ point_at self.now.file.now (self.now.start + 6 * j)) }
+        ensures row { IfOk result (λ grant. GrantRow W.Weight.meaning self.now.file.now (self.now.start + 6 * j) grant.1) }
     {
         let place = self.start + 6 * j;
+        let [point, letter, a, b, c, d] = *self.file[place..].first_chunk::<6>().unwrap();
         if !self.in_order(j) {
             return Err(Fault::of(Layer::Body, Refusal::OutsideTable, place));
         }
-        let [_, letter, a, b, c, d] = *self.file[place..].first_chunk::<6>().unwrap();
-        let right = Right::of_grant(letter).ok_or(Fault::of(
-            Layer::Body,
-            Refusal::WrongRight,
-            place + 1,
-        ))?;
+        let right = Right::try_from(letter).map_err(|why| Fault::of(Layer::Body, why, place + 1))?;
         let weight = W::make(u32::from_be_bytes([a, b, c, d])).map_err(|why| Fault::of(
             Layer::Weight,
             why,
             place + 2,
         ))?;
-        Ok(Row::grant(right, weight))
+        Ok((point, Row::grant(right, weight)))
     }
 
     // Checks the grants, each by 8, 9 and 10 before the next. One step for each grant.
@@ -79,7 +69,7 @@ impl<'a> Grants<'a> {
         ensures cases { first (grants_tests W.Weight.meaning self.now.file.now self.now.start self.now.count) ≡ result_err result }
     {
         for j in 0..self.count {
-            self.row::<W>(j)?;
+            self.grant::<W>(j)?;
         }
         Ok(())
     }
@@ -94,7 +84,8 @@ impl<'a> Grants<'a> {
         let empty = Row::empty();
         rows.fill_with(|| empty);
         for j in 0..self.count {
-            rows[usize::from(self.point(j))] = self.row(j).unwrap();
+            let (point, row) = self.grant(j).unwrap();
+            rows[usize::from(point)] = row;
         }
     }
 }

@@ -54,9 +54,9 @@ impl<'a> HeadedFile<'a> {
 
     // The end of the last body, where each entry starts where the body before it ends; else refused 6 at the first
     // entry that does not. One step for each device.
-    fn end(self) -> Result<usize, Fault>
-        requires { entry_at (devices_of self.bytes.now) ≤ length self.bytes.now }
-        ensures cases { EntriesChecked self.entry.bytes.now result }
+    fn end(&self) -> Result<usize, Fault>
+        requires { entry_at (devices_of self.now.bytes.now) ≤ length self.now.bytes.now }
+        ensures cases { EntriesChecked self.now.bytes.now result }
     {
         let devices = self.shape.devices();
         let mut end = 4 + 3 * devices;

@@ -16,7 +16,7 @@ pub fn head(kind: u8, file: &[u8]) -> Result<Shape, Fault>
                 return Err(Fault::of(Layer::Head, Refusal::WrongHead, 1));
             }
             Shape::new(*devices, *points).map_err(|why| {
-                let place = if *devices < 1 || *devices > 64 { 2 } else { 3 };
+                let place = if matches!(devices, 1..=64) { 3 } else { 2 };
                 Fault::of(Layer::Head, why, place)
             })
         }

@@ -7,13 +7,13 @@ use Rattle.grantfile.proofs.bodies.Grants.check.Goals as goal
 pub loop-j-preserved : goal.loop-j-preserved
 loop-j-preserved g c =
     let body = c.args.self.now in
-    c.loop-j.invariant ∙ joined_past (grant_tests g.W.Weight.meaning body.file.now body.start) c.loop-j.j body.count c.loop-j-test.true c.in_ok-row.ensures.cases
+    c.loop-j.invariant ∙ joined_past (grant_tests g.W.Weight.meaning body.file.now body.start) c.loop-j.j body.count c.loop-j-test.true c.in_ok-grant.ensures.cases
 
-pub returns-in_err-row : goal.returns-in_err-row
-returns-in_err-row g c =
+pub returns-in_err-grant : goal.returns-in_err-grant
+returns-in_err-grant g c =
     let body = c.args.self.now in
     record {
       cases =
           rw (handed_on c.from_residual.result _ c.from_residual.ensures.1)
-          (c.loop-j.invariant ∙ joined_stop (grant_tests g.W.Weight.meaning body.file.now body.start) c.loop-j.j body.count _ c.loop-j-test.true c.in_err-row.ensures.cases);
+          (c.loop-j.invariant ∙ joined_stop (grant_tests g.W.Weight.meaning body.file.now body.start) c.loop-j.j body.count _ c.loop-j-test.true c.in_err-grant.ensures.cases);
     }

@@ -15,11 +15,11 @@ loop-j-init g c =
     none_filled g.W.Weight.meaning body.file.now body.start c.fill_with.new.self
     (all_made _ _ (empty_row g.W.Weight.meaning) (λ x q h. (search rules, search rules)) _ _ c.fill_with.ensures.ran.1)
 
-pub unwrap-requires : goal.unwrap-requires
-unwrap-requires g c =
+pub unwrap-point-requires : goal.unwrap-point-requires
+unwrap-point-requires g c =
     let body = c.args.self.now in
     let tests = grant_tests g.W.Weight.meaning body.file.now body.start in
-    grant_read (tests c.loop-j.j) c.row.result (joined_passed tests body.count c.loop-j.j c.loop-j-test.true c.requires.passed) c.row.ensures.cases
+    grant_read (tests c.loop-j.j) c.grant.result (joined_passed tests body.count c.loop-j.j c.loop-j-test.true c.requires.passed) c.grant.ensures.cases
 
 pub loop-j-preserved : goal.loop-j-preserved
 loop-j-preserved g c =
@@ -28,11 +28,11 @@ loop-j-preserved g c =
     let j = c.loop-j.j in
     let p = points_inside k body.file.now body.start body.count j c.requires.passed c.loop-j-test.true in
     let h : point_at body.file.now (body.start + 6 * j) < length c.loop-j.rows = omega (arith, c.requires.points) in
-    let e : c.from.result ≡ point_at body.file.now (body.start + 6 * j) = c.from.ensures ∙ c.point.ensures.value in
+    let e : c.from.result ≡ point_at body.file.now (body.start + 6 * j) = c.from.ensures ∙ IfOk-at_ok _ c.unwrap-point.ensures c.grant.ensures.point in
     rw e
-    (more_filled k body.file.now body.start j c.loop-j.rows c.unwrap.result c.loop-j.invariant h
+    (more_filled k body.file.now body.start j c.loop-j.rows c.unwrap-point.result.1 c.loop-j.invariant h
     (λ i l. points_rise k body.file.now body.start body.count i j c.requires.passed l c.loop-j-test.true)
-    (IfOk-at_ok _ c.unwrap.ensures c.row.ensures.row))
+    (IfOk-at_ok _ c.unwrap-point.ensures c.grant.ensures.row))
 
 pub returns : goal.returns
 returns g c =

@@ -10,14 +10,14 @@ use Rattle.grantfile.proofs.file.HeadedFile.end.Goals as goal
 
 pub loop-device-init : goal.loop-device-init
 loop-device-init c =
-    let file = c.args.self.bytes.now in
+    let file = c.args.self.now.bytes.now in
     let b = body_first file in
     let n : devices_of file ≡ c.devices-devices.result - 0 = omega arith in
     record { place = omega arith; small = omega arith; left = each_joined (entry_test file) (devices_of file) ∙ ap (λ m. first (flat_map (λ i. entry_test file i ∷ []) (range_with_len 0 m))) n }
 
 pub loop-device-preserved : goal.loop-device-preserved
 loop-device-preserved c =
-    let file = c.args.self.bytes.now in
+    let file = c.args.self.now.bytes.now in
     let d = c.loop-device.device in
     let n = body_next file d in
     let same : start_of file d ≡ body_at file d = omega arith in
@@ -29,7 +29,7 @@ loop-device-preserved c =
 
 pub returns-then-from-end : goal.returns-then-from-end
 returns-then-from-end c =
-    let file = c.args.self.bytes.now in
+    let file = c.args.self.now.bytes.now in
     let d = c.loop-device.device in
     let other : start_of file d ≡ body_at file d → ⊥ = λ same. omega (arith, c.if-from-end.true) in
     record {
