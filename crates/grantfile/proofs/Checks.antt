@@ -1,6 +1,6 @@
 -- What the tests of a file come to, list by list in their order.
 use Rattle.std.proofs.Common.{◌≡◌, ℕ, ◌+◌, ◌*◌, ◌<◌, ◌≤◌, List, [], ◌∷◌, ◌++◌, length, Some, None, refl, sym, ap, ◌∙◌, subst, min, arith}
-use Rattle.std.proofs.lemmas.Bool.{le-ltb, ltb-false, eq-eqb, eqb-true, ne_eqb, not-false, not_from_true, not_from_false, cond-true, cond-false}
+use Rattle.std.proofs.lemmas.Bool.{le-ltb, eq-eqb, eqb-true, ne_eqb, not-false, not_from_true, not_from_false, cond-true, cond-false}
 use Rattle.mesh.specs.declared.shape.Shape.{Shape}
 use Rattle.mesh.specs.Kind.{Kind}
 use Rattle.mesh.specs.Table.{rows_of}
@@ -10,7 +10,7 @@ use Rattle.grantfile.specs.declared.fault.Layer.TheVariants as layer
 use Rattle.grantfile.specs.Inner.{grants_tests}
 use Rattle.grantfile.specs.Format.{ShapeOf, devices_of, points_of, entry_at, start_of, count_of, body_at}
 use Rattle.grantfile.specs.Tests.{first, entry_test, entries_tests, end_test, contents_tests, head_tests, rows_test, body_tests, bodies_tests, all_tests}
-use Rattle.grantfile.proofs.Firsts.{under, first_past, first_stop, first_front, first_back, joined_passed, each_joined}
+use Rattle.grantfile.proofs.Firsts.{under, first_past, first_stop, first_none, joined_passed, each_joined}
 use Rattle.grantfile.proofs.Places.{body_next, body_rises}
 
 whole : (file : List ℕ) → entry_at (devices_of file) ≤ length file → first (contents_tests file) ≡ first (entries_tests file ++ end_test file ∷ [])
@@ -24,30 +24,27 @@ entries_past : (file : List ℕ) → entry_at (devices_of file) ≤ length file 
 entries_past file h e = whole file h ∙ first_past (entries_tests file) (end_test file ∷ []) e
 
 -- whole contents with right entries: the end decides
-pub end_stops : (file : List ℕ) (end : ℕ) (f : Fault) → entry_at (devices_of file) ≤ length file → (first (entries_tests file) ≡ None) × (end ≡ body_at file (devices_of file))
+pub end_stops : (file : List ℕ) (end : ℕ) (f : Fault) → entry_at (devices_of file) ≤ length file → first (entries_tests file) ≡ None → end ≡ body_at file (devices_of file)
     → (length file ≡ end → ⊥) → f ≡ record { why = WrongEnd; place = min (length file) end; layer = layer.Contents } → first (contents_tests file) ≡ Some f
-end_stops file end f h e ne q =
+end_stops file end f h e p ne q =
     let other : length file ≡ body_at file (devices_of file) → ⊥ = λ z. ne (omega arith) in
-    entries_past file h e.0 ∙ cond-true _ _ _ (not_from_false _ (ne_eqb _ _ other)) ∙ ap Some (ap (λ n. record { why = WrongEnd; place = min (length file) n; layer = layer.Contents }) (sym e.1) ∙ sym q)
+    entries_past file h e ∙ cond-true _ _ _ (not_from_false _ (ne_eqb _ _ other)) ∙ ap Some (ap (λ n. record { why = WrongEnd; place = min (length file) n; layer = layer.Contents }) (sym p) ∙ sym q)
 
 pub contents_passed : (file : List ℕ) → entry_at (devices_of file) ≤ length file → first (entries_tests file) ≡ None → length file ≡ body_at file (devices_of file)
     → first (contents_tests file) ≡ None
 contents_passed file h e q = entries_past file h e ∙ cond-false _ _ _ (not_from_true _ (eq-eqb _ _ q))
 
--- what contents that pass say: they are whole, each body starts where its entry says, and lies within the file
-pub passed_whole : (file : List ℕ) → first (contents_tests file) ≡ None → entry_at (devices_of file) ≤ length file
-passed_whole file e = ltb-false _ _ (under _ _ _ e).0
-
-right : (file : List ℕ) → first (contents_tests file) ≡ None → first (entries_tests file ++ end_test file ∷ []) ≡ None
-right file e = (under _ _ _ e).1
+-- what contents that pass say: each body starts where its entry says, and lies within the file, which ends with the last
+passed : (file : List ℕ) → first (contents_tests file) ≡ None → (first (entries_tests file) ≡ None) × (first (end_test file ∷ []) ≡ None)
+passed file e = first_none (entries_tests file) (end_test file ∷ []) (under _ _ _ e).1
 
 pub passed_start : (file : List ℕ) (d : ℕ) → first (contents_tests file) ≡ None → d < devices_of file → start_of file d ≡ body_at file d
 passed_start file d e h =
-    let entries = sym (each_joined (entry_test file) (devices_of file)) ∙ first_front (entries_tests file) (end_test file ∷ []) (right file e) in
+    let entries = sym (each_joined (entry_test file) (devices_of file)) ∙ (passed file e).0 in
     eqb-true _ _ (not-false _ (under _ _ None (joined_passed (λ i. entry_test file i ∷ []) (devices_of file) d h entries)).0)
 
 pub passed_end : (file : List ℕ) → first (contents_tests file) ≡ None → length file ≡ body_at file (devices_of file)
-passed_end file e = eqb-true _ _ (not-false _ (under _ _ _ (first_back (entries_tests file) (end_test file ∷ []) (right file e))).0)
+passed_end file e = eqb-true _ _ (not-false _ (under _ _ _ (passed file e).1).0)
 
 pub passed_within : (file : List ℕ) (d : ℕ) → first (contents_tests file) ≡ None → d < devices_of file → body_at file d + 6 * count_of file d ≤ length file
 passed_within file d e h =

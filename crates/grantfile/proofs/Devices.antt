@@ -1,7 +1,7 @@
 -- The rows of the table, device by device.
-use Rattle.std.proofs.Common.{◌≡◌, ℕ, suc, ◌+◌, ◌*◌, ◌<◌, ◌≤◌, ◌≢◌, ◌⊎◌, List, length, get_or, take, drop, sym, ap, ◌∙◌, subst, inl, inr, mul-le-mul_right, suc-mul, add-one, arith}
+use Rattle.std.proofs.Common.{◌≡◌, ℕ, suc, ◌+◌, ◌*◌, ◌<◌, ◌≤◌, ◌≢◌, ◌⊎◌, List, length, get_or, drop, sym, ap, ◌∙◌, subst, inl, inr, mul-le-mul_right, suc-mul, add-one, arith, rules}
 use borrow.Rule.Slice.PartMut.{put_mid}
-use Rattle.std.proofs.lemmas.List.{length-take-le, get_or_append_left, get_or-append-add, get_or-take, drop-drop}
+use Rattle.std.proofs.lemmas.List.{places, drop-drop}
 use Rattle.std.proofs.lemmas.Slice.{drop-put_mid}
 use Rattle.std.proofs.lemmas.Bool.{cases_eq}
 use Rattle.mesh.specs.declared.row.Row.{Row}
@@ -32,20 +32,10 @@ rows_within s d points n h p w =
 
 -- a row before the part that was written, and one in it
 at_before : {X : Type 0} (a k : ℕ) (xs ys : List X) (i : ℕ) (x : X) → i < a → a ≤ length xs → get_or (put_mid a k xs ys) i x ≡ get_or xs i x
-at_before a k xs ys i x h l =
-    let n = length-take-le a xs l in
-    let m : i < length (take a xs) = omega arith in
-    get_or_append_left (take a xs) _ x i m ∙ get_or-take a xs i x h
+at_before a k xs ys i x h l = search (rules, places)
 
 at_within : {X : Type 0} (a k : ℕ) (xs ys : List X) (i : ℕ) (x : X) → i < length ys → a ≤ length xs → get_or (put_mid a k xs ys) (a + i) x ≡ get_or ys i x
-at_within {X} a k xs ys i x h l =
-    let n = length-take-le a xs l in
-    let z : a + i ≡ length (take a xs) + i = omega arith in
-    ap (λ m. get_or (put_mid a k xs ys) m x) z ∙ get_or-append-add (take a xs) _ i x ∙ get_or_append_left ys _ x i h
-
--- no device has its rows yet
-pub none_to : {W : Type 0} (k : Kind W) (file : List ℕ) (rows : List (Row W)) → FilledTo k 0 file rows
-none_to k file rows = record { named = λ d j x l. absurd (omega arith); others = λ d p x l. absurd (omega arith) }
+at_within {X} a k xs ys i x h l = search (rules, places)
 
 -- one more device has its rows
 pub more_to : {W : Type 0} (k : Kind W) (file : List ℕ) (d start count at n : ℕ) (rows part : List (Row W))

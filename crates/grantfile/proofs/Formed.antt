@@ -11,7 +11,7 @@ use Rattle.grantfile.specs.Format.{byte_at, devices_of, points_of, entry_at, sta
 use Rattle.grantfile.specs.Reading.{ReadInto}
 use Rattle.grantfile.specs.Tests.{Test, first, out_of_range, out_of_order, head_tests, rows_test, entry_test, entries_tests, end_test, contents_tests, grant_tests, body_tests, bodies_tests, all_tests}
 use Rattle.grantfile.proofs.Checks.{passed_start, passed_end}
-use Rattle.grantfile.proofs.Firsts.{handed_on, under, first_past, first_front, first_back, joined_passed, joined_none, each_joined}
+use Rattle.grantfile.proofs.Firsts.{handed_on, under, first_past, first_none, joined_passed, joined_none, each_joined}
 use Rattle.grantfile.proofs.Places.{body_first, body_rises}
 use Rattle.grantfile.proofs.Written.{ordered}
 
@@ -34,12 +34,12 @@ range_holds : (n : ℕ) → out_of_range n ≡ false → (1 ≤ n) × (n ≤ 64)
 range_holds n e = let p = or_parts _ _ e in (ltb-false n 1 p.0, ltb-false 64 n p.1)
 
 some_right : (o : Option Right) → option_is_some o ≡ true → (r : Right) × (o ≡ Some r)
-some_right None e = absurd (let z : ◌≡◌ {A = ℕ} 0 1 = cc in omega arith)
+some_right None e = absurd (cc)
 some_right (Some r) e = (r, refl)
 
 holds : (b : Bool) → not b ≡ false → T b
 holds true e = tt
-holds false e = absurd (let z : ◌≡◌ {A = ℕ} 0 1 = cc in omega arith)
+holds false e = absurd (cc)
 
 -- the three tests of a grant, by device and index
 grant_passed : {W : Type 0} (k : Kind W) (file : List ℕ) (d j : ℕ) → first (bodies_tests k file) ≡ None → Granted file d j → AllPass (grant_tests k file (body_at file d) j)
@@ -55,10 +55,11 @@ rises file d j e =
 pub formed : {W : Type 0} (k : Kind W) (lent : ℕ) (file : List ℕ) → first (all_tests k lent file) ≡ None → WellFormed k file × (devices_of file * points_of file ≤ lent)
 formed k lent file e =
     let body = contents_tests file ++ bodies_tests k file in
-    let head = all_pass (head_tests k.number file) (first_front (head_tests k.number file) (rows_test lent file ∷ body) e) in
-    let rest = under (rows_test lent file).fails (rows_test lent file).fault (first body) (first_back (head_tests k.number file) (rows_test lent file ∷ body) e) in
-    let contents = first_front (contents_tests file) (bodies_tests k file) rest.1 in
-    let bodies = first_back (contents_tests file) (bodies_tests k file) rest.1 in (
+    let parts = first_none (head_tests k.number file) (rows_test lent file ∷ body) e in
+    let head = all_pass (head_tests k.number file) parts.0 in
+    let rest = under (rows_test lent file).fails (rows_test lent file).fault (first body) parts.1 in
+    let contents = (first_none (contents_tests file) (bodies_tests k file) rest.1).0 in
+    let bodies = (first_none (contents_tests file) (bodies_tests k file) rest.1).1 in (
       record {
         long = ltb-false (length file) 4 head.0;
         letter = eqb-true (byte_at file 0) 0x47 (not-false _ head.1.0);
@@ -139,8 +140,7 @@ accepts k file before after (Ok s) h = formed k (length before) file h.0
 accepts k file before after (Err f) h = λ w enough.
     let failed = h.0 in
     let passed = passes k (length before) file w enough in
-    let z : ◌≡◌ {A = ℕ} 0 1 = cc in
-    omega arith
+    cc
 
 -- a fault that is handed on
 pub refused : {W : Type 0} (k : Kind W) (file : List ℕ) (rows : List (Row W)) (r : Result Shape Fault) (f : Fault) → IsErrAnd r (λ e. e ≡ f)

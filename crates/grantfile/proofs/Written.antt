@@ -51,7 +51,7 @@ points_rise k file start n i j e l h =
 -- a grant whose tests pass is read
 pub grant_read : {X : Type 0} (ts : List Test) (r : Result X Fault) → first ts ≡ None → first ts ≡ result_err r → is_ok r ≡ true
 grant_read ts (Ok row) e g = refl
-grant_read ts (Err f) e g = absurd (let z : ◌≡◌ {A = ℕ} 0 1 = cc in omega arith)
+grant_read ts (Err f) e g = absurd (cc)
 
 -- rows that are all made by the same call
 pub all_made : {P X : Type 0} (R : P → X → P → Type 0) (p : P) (row : X) → ((x : X) (q : P) → R p x q → (x ≡ row) × (q ≡ p))

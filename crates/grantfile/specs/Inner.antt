@@ -1,22 +1,16 @@
 -- What the reader's inner steps answer, and what they leave.
---     EntriesChecked file r         each entry starts where the body before it ends; the answer is where the last body ends
 --     GrantRow k file i row         the row is that of the grant at the place i
 --     grants_tests k file s n       the tests of the first n grants of the body from the place s on
 --     BodyFilled k file s n rows    among the rows of one device, the first n grants of the body from s on stand in theirs, and every other row is empty
-use Rattle.std.specs.Prelude.{◌≡◌, ℕ, ◌+◌, ◌*◌, ◌<◌, List, length, Some, None, Ok, Err, Result, ◌≢◌, slice_index_or}
+use Rattle.std.specs.Prelude.{◌≡◌, ℕ, ◌+◌, ◌*◌, ◌<◌, List, length, Some, ◌≢◌, slice_index_or}
 use Rattle.std.specs.List.{range_with_len, flat_map}
 use Rattle.mesh.specs.declared.right.Right.{Right}
 use Rattle.mesh.specs.declared.row.Row.{Row}
 use Rattle.mesh.specs.Kind.{Kind}
 use Rattle.mesh.specs.Rights.{right_of}
 use Rattle.mesh.specs.Rows.{empty_row, grant_row}
-use Rattle.grantfile.specs.declared.fault.Fault.{Fault}
-use Rattle.grantfile.specs.Format.{devices_of, body_at, point_at, letter_at, amount_at}
-use Rattle.grantfile.specs.Tests.{Test, first, entries_tests, grant_tests}
-
-abbrev pub EntriesChecked : List ℕ → Result ℕ Fault → Type 0
-EntriesChecked file (Ok end) = (first (entries_tests file) ≡ None) × (end ≡ body_at file (devices_of file))
-EntriesChecked file (Err f) = first (entries_tests file) ≡ Some f
+use Rattle.grantfile.specs.Format.{point_at, letter_at, amount_at}
+use Rattle.grantfile.specs.Tests.{Test, grant_tests}
 
 abbrev pub GrantRow : {W : Type 0} → Kind W → List ℕ → ℕ → Row W → Type 0
 GrantRow k file i row = (r : Right) → right_of (letter_at file i) ≡ Some r → row ≡ grant_row r (k.of (amount_at file i))

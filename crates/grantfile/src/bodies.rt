@@ -81,6 +81,7 @@ impl<'a> Grants<'a> {
         requires passed { first (grants_tests W.Weight.meaning self.now.file.now self.now.start self.now.count) ≡ None }
         ensures after { BodyFilled W.Weight.meaning self.now.file.now self.now.start self.now.count rows.new }
     {
+        // Not by `fill`, which asks that a clone of W cannot fail.
         let empty = Row::empty();
         rows.fill_with(|| empty);
         for j in 0..self.count {

@@ -40,8 +40,8 @@ pub struct Body<'a> {
 impl<'a> HeadedFile<'a> {
     ghost use Rattle.std.specs.Prelude.{IfOk};
     ghost use Rattle.std.specs.Result.{result_err};
-    ghost use Rattle.grantfile.specs.Inner.{EntriesChecked};
-    ghost use Rattle.grantfile.specs.Tests.{head_tests};
+    ghost use Rattle.grantfile.specs.Format.{body_at};
+    ghost use Rattle.grantfile.specs.Tests.{entries_tests, head_tests};
 
     // The file in the bytes, its kind to be `kind`; refused 1, 2 or 3, in this order. Constant time.
     pub(super) fn new(kind: u8, bytes: &'a [u8]) -> Result<HeadedFile<'a>, Fault>
@@ -56,7 +56,8 @@ impl<'a> HeadedFile<'a> {
     // entry that does not. One step for each device.
     fn end(&self) -> Result<usize, Fault>
         requires { entry_at (devices_of self.now.bytes.now) ≤ length self.now.bytes.now }
-        ensures cases { EntriesChecked self.now.bytes.now result }
+        ensures cases { first (entries_tests self.now.bytes.now) ≡ result_err result }
+        ensures end { IfOk result (λ end. end ≡ body_at self.now.bytes.now (devices_of self.now.bytes.now)) }
     {
         let devices = self.shape.devices();
         let mut end = 4 + 3 * devices;
@@ -158,6 +159,7 @@ impl<'a> GrantFile<'a> {
         ensures beyond { drop (rows_of self.now.shape) rows.new ≡ drop (rows_of self.now.shape) rows.old }
     {
         let points = self.shape.points();
+        // By index: once a loop over chunks_exact_mut has ended, a proof knows only how many rows there are.
         for device in 0..self.shape.devices() {
             let at = device * points;
             self.grants(device).fill(&mut rows[at..at + points]);

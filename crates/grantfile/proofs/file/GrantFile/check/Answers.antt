@@ -3,7 +3,7 @@ use Rattle.std.proofs.Common.{◌<◌, ◌∙◌, arith}
 use Rattle.grantfile.specs.Format.{devices_of}
 use Rattle.grantfile.specs.Tests.{body_tests}
 use Rattle.grantfile.proofs.Checks.{tests_of_body}
-use Rattle.grantfile.proofs.Firsts.{handed_on, joined_past, joined_stop}
+use Rattle.grantfile.proofs.Firsts.{joined_past, joined_handed}
 use Rattle.grantfile.proofs.file.GrantFile.check.Goals as goal
 
 pub loop-device-preserved : goal.loop-device-preserved
@@ -12,7 +12,7 @@ loop-device-preserved g c =
     let file = c.args.self.now.bytes.now in
     let inside : c.loop-device.device < devices_of file = omega arith in
     let tests = tests_of_body k file c.loop-device.device _ _ _ c.grants.ensures.file c.grants.ensures.start c.grants.ensures.count in
-    c.loop-device.invariant ∙ joined_past (body_tests k file) c.loop-device.device (devices_of file) inside (tests ∙ c.in_ok-check.ensures.cases)
+    joined_past (body_tests k file) c.loop-device.device (devices_of file) _ c.loop-device.invariant inside (tests ∙ c.in_ok-check.ensures.cases)
 
 pub returns-in_err-check : goal.returns-in_err-check
 returns-in_err-check g c =
@@ -22,6 +22,6 @@ returns-in_err-check g c =
     let tests = tests_of_body k file c.loop-device.device _ _ _ c.grants.ensures.file c.grants.ensures.start c.grants.ensures.count in
     record {
       cases =
-          rw (handed_on c.from_residual.result _ c.from_residual.ensures.1)
-          (c.loop-device.invariant ∙ joined_stop (body_tests k file) c.loop-device.device (devices_of file) _ inside (tests ∙ c.in_err-check.ensures.cases));
+          joined_handed (body_tests k file) c.loop-device.device (devices_of file) _ _ _ c.loop-device.invariant inside
+          (tests ∙ c.in_err-check.ensures.cases) c.from_residual.ensures.1;
     }

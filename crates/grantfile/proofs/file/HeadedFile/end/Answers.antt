@@ -24,17 +24,15 @@ loop-device-preserved c =
     record {
       place = omega arith;
       small = omega arith;
-      left = c.loop-device.invariant.left ∙ joined_past (λ i. entry_test file i ∷ []) d c.devices-devices.result c.loop-device-test.true (cond-false _ _ _ (not_from_true _ (eq-eqb _ _ same)));
+      left =
+          joined_past (λ i. entry_test file i ∷ []) d c.devices-devices.result _ c.loop-device.invariant.left c.loop-device-test.true
+          (cond-false _ _ _ (not_from_true _ (eq-eqb _ _ same)));
     }
 
-pub returns-then-from-end : goal.returns-then-from-end
-returns-then-from-end c =
+pub returns-then-from-end-clause-cases : goal.returns-then-from-end-clause-cases
+returns-then-from-end-clause-cases c =
     let file = c.args.self.now.bytes.now in
     let d = c.loop-device.device in
     let other : start_of file d ≡ body_at file d → ⊥ = λ same. omega (arith, c.if-from-end.true) in
-    record {
-      cases =
-          c.loop-device.invariant.left
-          ∙ joined_stop (λ i. entry_test file i ∷ []) d c.devices-devices.result _ c.loop-device-test.true (cond-true _ _ _ (not_from_false _ (ne_eqb _ _ other)))
-          ∙ ap Some (sym c.of.ensures.value);
-    }
+    joined_stop (λ i. entry_test file i ∷ []) d c.devices-devices.result _ _ c.loop-device.invariant.left c.loop-device-test.true
+    (cond-true _ _ _ (not_from_false _ (ne_eqb _ _ other)) ∙ ap Some (sym c.of.ensures.value))
