@@ -1,5 +1,6 @@
 -- What the tests of a file come to, list by list in their order.
 use Rattle.std.proofs.Common.{◌≡◌, ℕ, ◌+◌, ◌*◌, ◌<◌, ◌≤◌, List, [], ◌∷◌, ◌++◌, length, Some, None, refl, sym, ap, ◌∙◌, subst, min, arith}
+use Rattle.std.specs.List.{range_with_len, flat_map}
 use Rattle.std.proofs.lemmas.Bool.{le-ltb, eq-eqb, eqb-true, ne_eqb, not-false, not_from_true, not_from_false, cond-true, cond-false}
 use Rattle.mesh.specs.declared.shape.Shape.{Shape}
 use Rattle.mesh.specs.Kind.{Kind}
@@ -7,9 +8,10 @@ use Rattle.mesh.specs.Table.{rows_of}
 use Rattle.grantfile.specs.declared.fault.Fault.{Fault}
 use Rattle.mesh.specs.declared.refusal.Refusal.TheVariants.{WrongEnd}
 use Rattle.grantfile.specs.declared.fault.Layer.TheVariants as layer
+use Rattle.grantfile.specs.declared.bodies.Grants.{Grants}
 use Rattle.grantfile.specs.Inner.{grants_tests}
 use Rattle.grantfile.specs.Format.{ShapeOf, devices_of, points_of, entry_at, start_of, count_of, body_at}
-use Rattle.grantfile.specs.Tests.{first, entry_test, entries_tests, end_test, contents_tests, head_tests, rows_test, body_tests, bodies_tests, all_tests}
+use Rattle.grantfile.specs.Tests.{first, entry_test, entries_tests, end_test, contents_tests, head_tests, rows_test, body_tests, bodies_tests, all_tests, grant_tests}
 use Rattle.grantfile.proofs.Firsts.{under, first_past, first_stop, first_none, joined_passed, each_joined}
 use Rattle.grantfile.proofs.Places.{body_next, body_rises}
 
@@ -54,9 +56,11 @@ passed_within file d e h =
     omega arith
 
 -- the tests of a body, by what its grants say
-pub tests_of_body : {W : Type 0} (k : Kind W) (file : List ℕ) (d : ℕ) (bytes : List ℕ) (start count : ℕ) → bytes ≡ file → start ≡ body_at file d → count ≡ count_of file d
-    → first (body_tests k file d) ≡ first (grants_tests k bytes start count)
-tests_of_body k file d bytes start count b s c = let z : first (grants_tests k bytes start count) ≡ first (grants_tests k file (body_at file d) (count_of file d)) = rw (b, s, c) refl in sym z
+pub tests_of_body : {W : Type 0} (k : Kind W) (file : List ℕ) (d : ℕ) (g : Grants) → g.file.now ≡ file → g.start ≡ body_at file d → g.count ≡ count_of file d
+    → first (body_tests k file d) ≡ first (grants_tests k g)
+tests_of_body k file d g f s c =
+    let P = λ (bytes : List ℕ) (start count : ℕ). first (flat_map (grant_tests k bytes start) (range_with_len 0 count)) in
+    ap (λ n. P file (body_at file d) n) (sym c) ∙ ap (λ i. P file i g.count) (sym s) ∙ ap (λ b. P b g.start g.count) (sym f)
 
 -- what is left to test once the head passes and there are rows enough, and once the contents pass too
 pub past_rows : {W : Type 0} (k : Kind W) (lent kind : ℕ) (file : List ℕ) (s : Shape) → kind ≡ k.number → first (head_tests kind file) ≡ None → ShapeOf file s

@@ -1,6 +1,6 @@
 -- Rows as the grants of a body are written into them, one by one.
 use Rattle.std.proofs.Common.{◌≡◌, ℕ, zero, suc, ◌+◌, ◌-◌, ◌*◌, ◌<◌, true, false, ltb, leb, ◌≢◌, ◌⊎◌, List, [], ◌∷◌, length, get_or, set, is_ok, None, Ok, Err, Result, sym, refl, ap, ◌∙◌, subst, inl, inr, arith, length-set}
-use Rattle.std.specs.List.{FoldsTo}
+use Rattle.std.specs.List.{FoldsTo, range_with_len, flat_map}
 use Rattle.std.specs.Result.{result_err}
 use Rattle.std.proofs.lemmas.List.{get_or-set_same, get_or-set_other}
 use Rattle.std.proofs.lemmas.Bool.{cases_eq, or_parts, and_cases, leb-false, ltb-false}
@@ -9,7 +9,7 @@ use Rattle.mesh.specs.Kind.{Kind}
 use Rattle.mesh.specs.Rows.{empty_row}
 use Rattle.grantfile.specs.declared.fault.Fault.{Fault}
 use Rattle.grantfile.specs.Format.{point_at, points_of}
-use Rattle.grantfile.specs.Inner.{GrantRow, BodyFilled, grants_tests}
+use Rattle.grantfile.specs.Inner.{GrantRow, BodyFilled}
 use Rattle.grantfile.specs.Tests.{Test, first, out_of_order, grant_tests}
 use Rattle.grantfile.proofs.Firsts.{under, joined_passed}
 
@@ -38,12 +38,12 @@ rises f n h i (suc j) l m =
     go (inr ne) r s = let d : i < j = omega (arith, ne) in let q = r d (omega arith) in omega arith
 
 -- the points of a body that passes
-pub points_inside : {W : Type 0} (k : Kind W) (file : List ℕ) (start n j : ℕ) → first (grants_tests k file start n) ≡ None → j < n
+pub points_inside : {W : Type 0} (k : Kind W) (file : List ℕ) (start n j : ℕ) → first (flat_map (grant_tests k file start) (range_with_len 0 n)) ≡ None → j < n
     → point_at file (start + 6 * j) < points_of file
 points_inside k file start n j e h =
     (ordered file start j (under _ _ _ (joined_passed (grant_tests k file start) n j h e)).0).0
 
-pub points_rise : {W : Type 0} (k : Kind W) (file : List ℕ) (start n i j : ℕ) → first (grants_tests k file start n) ≡ None → i < j → j < n
+pub points_rise : {W : Type 0} (k : Kind W) (file : List ℕ) (start n i j : ℕ) → first (flat_map (grant_tests k file start) (range_with_len 0 n)) ≡ None → i < j → j < n
     → point_at file (start + 6 * i) < point_at file (start + 6 * j)
 points_rise k file start n i j e l h =
     rises (λ m. point_at file (start + 6 * m)) n (λ m b. (ordered file start m (under _ _ _ (joined_passed (grant_tests k file start) n m b e)).0).1) i j l h

@@ -66,7 +66,7 @@ impl<'a> Grants<'a> {
 
     // Checks the grants, each by 8, 9 and 10 before the next. One step for each grant.
     pub(super) fn check<W: Weight>(&self) -> Result<(), Fault>
-        ensures cases { first (grants_tests W.Weight.meaning self.now.file.now self.now.start self.now.count) ≡ result_err result }
+        ensures cases { first (grants_tests W.Weight.meaning self.now) ≡ result_err result }
     {
         for j in 0..self.count {
             self.grant::<W>(j)?;
@@ -78,7 +78,7 @@ impl<'a> Grants<'a> {
     // step for each row and grant.
     pub(super) fn fill<W: Weight>(&self, rows: &mut [Row<W>])
         requires points { length rows.old ≡ points_of self.now.file.now }
-        requires passed { first (grants_tests W.Weight.meaning self.now.file.now self.now.start self.now.count) ≡ None }
+        requires passed { first (grants_tests W.Weight.meaning self.now) ≡ None }
         ensures after { BodyFilled W.Weight.meaning self.now.file.now self.now.start self.now.count rows.new }
     {
         // Not by `fill`, which asks that a clone of W cannot fail.

@@ -9,4 +9,4 @@ abbrev pub invariant-loop-j : goal.invariant-loop-j
 invariant-loop-j g l =
     let k = g.W.Weight.meaning in
     let body = l.self in
-    first (grants_tests k body.file.now body.start body.count) ≡ first (flat_map (grant_tests k body.file.now body.start) (range_with_len l.j (body.count - l.j)))
+    first (grants_tests k body) ≡ first (flat_map (grant_tests k body.file.now body.start) (range_with_len l.j (body.count - l.j)))

@@ -11,7 +11,7 @@ loop-device-preserved g c =
     let k = g.W.Weight.meaning in
     let file = c.args.self.now.bytes.now in
     let inside : c.loop-device.device < devices_of file = omega arith in
-    let tests = tests_of_body k file c.loop-device.device _ _ _ c.grants.ensures.file c.grants.ensures.start c.grants.ensures.count in
+    let tests = tests_of_body k file c.loop-device.device c.grants.result c.grants.ensures.file c.grants.ensures.start c.grants.ensures.count in
     joined_past (body_tests k file) c.loop-device.device (devices_of file) _ c.loop-device.invariant inside (tests ∙ c.in_ok-check.ensures.cases)
 
 pub returns-in_err-check : goal.returns-in_err-check
@@ -19,7 +19,7 @@ returns-in_err-check g c =
     let k = g.W.Weight.meaning in
     let file = c.args.self.now.bytes.now in
     let inside : c.loop-device.device < devices_of file = omega arith in
-    let tests = tests_of_body k file c.loop-device.device _ _ _ c.grants.ensures.file c.grants.ensures.start c.grants.ensures.count in
+    let tests = tests_of_body k file c.loop-device.device c.grants.result c.grants.ensures.file c.grants.ensures.start c.grants.ensures.count in
     record {
       cases =
           joined_handed (body_tests k file) c.loop-device.device (devices_of file) _ _ _ c.loop-device.invariant inside

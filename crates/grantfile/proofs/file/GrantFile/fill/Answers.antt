@@ -16,7 +16,7 @@ fill-requires-clause-passed g c =
     let file = c.args.self.now.bytes.now in
     let d = c.loop-device.device in
     let inside : d < devices_of file = omega arith in
-    sym (tests_of_body k file d _ _ _ c.grants.ensures.file c.grants.ensures.start c.grants.ensures.count) ∙ joined_passed (body_tests k file) (devices_of file) d inside c.requires.passed
+    sym (tests_of_body k file d c.grants.result c.grants.ensures.file c.grants.ensures.start c.grants.ensures.count) ∙ joined_passed (body_tests k file) (devices_of file) d inside c.requires.passed
 
 pub loop-device-preserved : goal.loop-device-preserved
 loop-device-preserved g c =
