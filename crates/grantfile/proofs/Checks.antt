@@ -1,7 +1,7 @@
 -- What the tests of a file come to, list by list in their order.
 use Rattle.std.proofs.Common.{◌≡◌, ℕ, ◌+◌, ◌*◌, ◌<◌, ◌≤◌, List, [], ◌∷◌, ◌++◌, length, Some, None, refl, sym, ap, ◌∙◌, subst, min, arith}
 use Rattle.std.specs.List.{range_with_len, flat_map}
-use Rattle.std.proofs.lemmas.Bool.{le-ltb, eq-eqb, eqb-true, ne_eqb, not-false, not_from_true, not_from_false, cond-true, cond-false}
+use Rattle.std.proofs.lemmas.Bool.{le-ltb, ltb-false, eq-eqb, eqb-true, ne_eqb, not-false, not_from_true, not_from_false, cond-true, cond-false}
 use Rattle.mesh.specs.declared.shape.Shape.{Shape}
 use Rattle.mesh.specs.Kind.{Kind}
 use Rattle.mesh.specs.Table.{rows_of}
@@ -36,7 +36,10 @@ pub contents_passed : (file : List ℕ) → entry_at (devices_of file) ≤ lengt
     → first (contents_tests file) ≡ None
 contents_passed file h e q = entries_past file h e ∙ cond-false _ _ _ (not_from_true _ (eq-eqb _ _ q))
 
--- what contents that pass say: each body starts where its entry says, and lies within the file, which ends with the last
+-- what contents that pass say: they are whole, each body starts where its entry says, and lies within the file, which ends with the last
+pub passed_whole : (file : List ℕ) → first (contents_tests file) ≡ None → entry_at (devices_of file) ≤ length file
+passed_whole file e = ltb-false _ _ (under _ _ _ e).0
+
 passed : (file : List ℕ) → first (contents_tests file) ≡ None → (first (entries_tests file) ≡ None) × (first (end_test file ∷ []) ≡ None)
 passed file e = first_none (entries_tests file) (end_test file ∷ []) (under _ _ _ e).1
 

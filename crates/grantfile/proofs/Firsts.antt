@@ -1,5 +1,5 @@
 -- The first test that fails: in two lists after one another, and in a list made index by index.
-use Rattle.std.proofs.Common.{◌≡◌, ℕ, zero, suc, ◌+◌, ◌-◌, ◌<◌, Bool, true, false, cond, List, [], ◌∷◌, ◌++◌, map, IsErrAnd, Some, None, Err, Option, Result, sym, refl, ap, ◌∙◌, subst, arith}
+use Rattle.std.proofs.Common.{◌≡◌, ℕ, zero, suc, ◌+◌, ◌-◌, ◌<◌, ◌≤◌, Bool, true, false, cond, List, [], ◌∷◌, ◌++◌, map, IsErrAnd, Some, None, Err, Option, Result, sym, refl, ap, ◌∙◌, subst, arith}
 use Rattle.std.specs.List.{range_with_len, flat_map}
 use Rattle.std.specs.Option.{option_or}
 use Rattle.std.specs.Result.{result_err}
@@ -40,7 +40,7 @@ both_none (Some f) p e = absurd (cc)
 pub first_none : (xs ys : List Test) → first (xs ++ ys) ≡ None → (first xs ≡ None) × (first ys ≡ None)
 first_none xs ys e = both_none (first xs) (first ys) (sym (first-append xs ys) ∙ e)
 
--- lists of tests one for each index, joined, of which those from i on are left: the one at i passes, or refuses and is handed on
+-- lists of tests one for each index, joined, of which those from i on are left: the one at i passes, or refuses and is handed on; none is left at the end
 joined_step : (T : ℕ → List Test) (i n : ℕ) → i < n → first (flat_map T (range_with_len i (n - i))) ≡ first (T i ++ flat_map T (range_with_len (i + 1) (n - (i + 1))))
 joined_step T i n h = let e : n - i ≡ suc (n - (i + 1)) = omega arith in ap (λ m. first (flat_map T (range_with_len i m))) e
 
@@ -55,6 +55,9 @@ joined_stop T i n all f l h e = l ∙ joined_step T i n h ∙ first_stop (T i) (
 pub joined_handed : {X : Type 0} (T : ℕ → List Test) (i n : ℕ) (all : Option Fault) (f : Fault) (r : Result X Fault)
     → all ≡ first (flat_map T (range_with_len i (n - i))) → i < n → first (T i) ≡ Some f → IsErrAnd r (λ e. e ≡ f) → all ≡ result_err r
 joined_handed T i n all f r l h e s = rw (handed_on r f s) (joined_stop T i n all f l h e)
+
+pub joined_end : (T : ℕ → List Test) (i n : ℕ) (all : Option Fault) → all ≡ first (flat_map T (range_with_len i (n - i))) → n ≤ i → all ≡ None
+joined_end T i n all l h = let e : n - i ≡ 0 = omega arith in l ∙ ap (λ m. first (flat_map T (range_with_len i m))) e
 
 -- where all pass, the one at k does
 joined_at : (T : ℕ → List Test) (i n k : ℕ) → k < n → first (flat_map T (range_with_len i n)) ≡ None → first (T (i + k)) ≡ None

@@ -68,6 +68,7 @@ impl<'a> Grants<'a> {
     pub(super) fn check<W: Weight>(&self) -> Result<(), Fault>
         ensures cases { first (grants_tests W.Weight.meaning self.now) ≡ result_err result }
     {
+        // By number, since a grant is tested against the one before it.
         for j in 0..self.count {
             self.grant::<W>(j)?;
         }

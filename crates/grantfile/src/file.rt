@@ -4,7 +4,7 @@ ghost use Rattle.grantfile.specs.Format.{ShapeOf, devices_of, entry_at};
 ghost use Rattle.grantfile.specs.Tests.{contents_tests, first};
 
 use super::bodies::Grants;
-use super::entries::entry_of;
+use super::entries::entry;
 use super::fault::{Fault, Layer};
 use super::heading::head;
 use mesh::refusal::Refusal;
@@ -59,10 +59,10 @@ impl<'a> HeadedFile<'a> {
         ensures cases { first (entries_tests self.now.bytes.now) ≡ result_err result }
         ensures end { IfOk result (λ end. end ≡ body_at self.now.bytes.now (devices_of self.now.bytes.now)) }
     {
-        let devices = self.shape.devices();
-        let mut end = 4 + 3 * devices;
-        for device in 0..devices {
-            let (start, count) = entry_of(self.bytes, device);
+        let mut end = 4 + 3 * self.shape.devices();
+        let (entries, _) = self.bytes[4..end].as_chunks::<3>();
+        for (device, bytes) in entries.iter().enumerate() {
+            let (start, count, _) = entry(bytes);
             if usize::from(start) != end {
                 return Err(Fault::of(Layer::Contents, Refusal::WrongStart, 4 + 3 * device));
             }
@@ -115,7 +115,7 @@ impl<'a> GrantFile<'a> {
         ensures start { result.start ≡ body_at self.now.bytes.now device }
         ensures count { result.count ≡ count_of self.now.bytes.now device }
     {
-        let (start, count) = entry_of(self.bytes, device);
+        let (start, count, _) = entry(&self.bytes[4 + 3 * device..]);
         Grants {
             file: self.bytes,
             points: self.shape.points(),
