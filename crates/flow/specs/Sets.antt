@@ -2,7 +2,7 @@
 --     Member i w     i is a member of w
 --     has w i        the same, as a test
 --     meets v w      the sets have a member in common
---     IsLowest w i  i is the lowest member of w
+--     IsLowest w i   i is the lowest member of w
 --     set_of p n     the set of the numbers below n that pass the test p
 --     count_of p n   how many numbers below n pass the test p
 use Rattle.std.specs.Prelude.{◌≡◌, ℕ, zero, suc, ◌+◌, ◌*◌, ◌^◌, ◌<◌, Bool, not, ◌==◌, bit_and}
