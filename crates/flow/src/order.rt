@@ -59,6 +59,7 @@ pub fn ring_stands<W>(shape: Shape, rows: &[Row<W>]) -> Result<bool, Refusal>
 // The devices in flow order at the front of the memory, and how many they are: at each position the lowest device
 // not yet listed whose sources are all listed. Refused 4 where the rows or the memory are too short, then 14 while
 // a ring stands; the memory is then unchanged, and past the devices always. Costs as much as `ring_stands`.
+// The order is no list of its own: its memory is lent by the caller, a rule of the calls.
 pub fn order<W>(shape: Shape, rows: &[Row<W>], memory: &mut [u8]) -> Result<usize, Refusal>
     ensures cases { OrderAnswer shape rows.now memory.old memory.new result }
 {

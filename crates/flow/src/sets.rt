@@ -12,7 +12,7 @@ pub(crate) struct Device {
     ghost in_word: { number < 64 },
 }
 
-// Whether a device is a member.
+// Whether a device is a member. A set has no type of its own: the follower table and reach hand plain words out, by their rules.
 pub(crate) fn member(set: u64, device: Device) -> bool
     ensures value { result ≡ has set device.number }
 {
