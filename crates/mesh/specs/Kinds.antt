@@ -1,21 +1,16 @@
 -- What the kinds sum and peak mean.
 --     admitted n      both kinds admit the amount n: 1 to 1,000,000
---     AmountIn n r    the answer r to the wish for n as an amount
 --     amount_from n   n where it is admitted, else 0
 --     held n          n, or 2^40 where n is larger
 --     sum_kind        kind 1: its join adds, and every stored number counts as held
 --     peak_kind       kind 2: its join is the larger, and no stored number is held
-use Rattle.std.specs.Prelude.{◌≡◌, ℕ, ◌+◌, ◌^◌, min, max, Bool, false, IsTrue, cond, ◌&&◌, Some, None, Option, decimal, nat_le}
+use Rattle.std.specs.Prelude.{ℕ, ◌+◌, ◌^◌, min, max, Bool, cond, ◌&&◌, decimal, nat_le}
 use Rattle.mesh.specs.Kind.{Kind}
 use Rattle.mesh.specs.declared.sum.Sum.{Sum}
 use Rattle.mesh.specs.declared.peak.Peak.{Peak}
 
 abbrev pub admitted : ℕ → Bool
 admitted n = nat_le 1 n && nat_le n 1000000
-
-abbrev pub AmountIn : ℕ → Option ℕ → Type 0
-AmountIn n (Some a) = IsTrue (admitted n) × (a ≡ n)
-AmountIn n None = admitted n ≡ false
 
 abbrev pub amount_from : ℕ → ℕ
 amount_from n = cond (admitted n) n 0

@@ -1,18 +1,13 @@
 -- What the kind steps means.
 --     admitted n   the kind admits the amount n: 1 to 9, or 20 to 29
---     AmountIn n r the answer r to the wish for n as an amount
 --     step_of w    the step on which the weight stands: its tens
 --     steps_kind   kind 7: its join is the weight on the higher step, the left one on equal steps
-use Rattle.std.specs.Prelude.{◌≡◌, ℕ, ◌+◌, ◌/◌, Bool, false, IsTrue, cond, ◌&&◌, ◌||◌, [], ◌∷◌, Some, None, Option, nat_le, nat_lt}
+use Rattle.std.specs.Prelude.{ℕ, ◌+◌, ◌/◌, Bool, cond, ◌&&◌, ◌||◌, [], ◌∷◌, nat_le, nat_lt}
 use Rattle.mesh.specs.Kind.{Kind}
 use Rattle.trials.specs.declared.steps.Steps.{Steps}
 
 abbrev pub admitted : ℕ → Bool
 admitted n = (nat_le 1 n && nat_le n 9) || (nat_le 20 n && nat_le n 29)
-
-abbrev pub AmountIn : ℕ → Option ℕ → Type 0
-AmountIn n (Some a) = IsTrue (admitted n) × (a ≡ n)
-AmountIn n None = admitted n ≡ false
 
 abbrev pub step_of : Steps → ℕ
 step_of w = w.height / 10

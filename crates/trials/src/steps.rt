@@ -1,6 +1,7 @@
 // The weight kind steps, in which a weight counts by its tens.
 ghost use Rattle.std.specs.Prelude.{◌≡◌};
-ghost use Rattle.trials.specs.Steps.{AmountIn, step_of, steps_kind};
+ghost use Rattle.mesh.specs.Kind.{AmountIn};
+ghost use Rattle.trials.specs.Steps.{admitted, step_of, steps_kind};
 ghost use Rattle.std.proofs.Common.{rules};
 
 use mesh::refusal::Refusal;
@@ -12,9 +13,10 @@ pub struct Steps {
     pub height: u8,
 }
 
-// The number as an amount, if it is one: 1 to 9, or 20 to 29. Constant time.
+// The number as an amount, if it is one: 1 to 9, or 20 to 29. Constant time. It is not one function with that of sum and peak,
+// as a pattern cannot be a parameter, and two ranges as four numbers would say less.
 fn amount_of(number: u32) -> Option<u8>
-    ensures cases { AmountIn number result }
+    ensures cases { AmountIn admitted number result }
 {
     match number {
         1..=9 | 20..=29 => Some(number as u8),
