@@ -85,8 +85,8 @@ impl<'a> Grants<'a> {
         // Not by `fill`, which asks that a clone of W cannot fail.
         let empty = Row::empty();
         rows.fill_with(|| empty);
-        for j in 0..self.count {
-            let (point, row) = self.grant(j).unwrap();
+        for written in 0..self.count {
+            let (point, row) = self.grant(written).unwrap();
             rows[usize::from(point)] = row;
         }
     }
