@@ -8,7 +8,8 @@ use mesh::right::Right;
 use mesh::row::Row;
 use mesh::weight::Weight;
 
-// The grants of one body: the file and the points of its table, where the body starts, and how many grants it has.
+// The grants of one body: the file and the points of its table, where the body starts, and how many grants it has. It holds no
+// part of the file, as `Body` does, since what is tested, and the place of a fault, is told by places in the file.
 #[derive(Clone, Copy)]
 pub(super) struct Grants<'a> {
     pub(super) file: &'a [u8],
@@ -82,7 +83,7 @@ impl<'a> Grants<'a> {
         requires passed { first (grants_tests W.Weight.meaning self.now) ≡ None }
         ensures after { BodyFilled W.Weight.meaning self.now.file.now self.now.start self.now.count rows.new }
     {
-        // Not by `fill`, which asks that a clone of W cannot fail.
+        // Not by `fill`, which asks that a clone of W cannot fail; and then by number, as above.
         let empty = Row::empty();
         rows.fill_with(|| empty);
         for written in 0..self.count {

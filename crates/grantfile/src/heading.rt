@@ -6,7 +6,7 @@ use mesh::refusal::Refusal;
 use mesh::shape::Shape;
 
 // The shape of the table in the file, whose kind is to be `kind`; refused 1, 2 or 3, in this order, by the
-// head's layer. Constant time.
+// head's layer. Constant time. The kind is a number, as the trait `Weight` has it.
 pub fn head(kind: u8, file: &[u8]) -> Result<Shape, Fault>
     ensures cases { Headed kind file.now result }
 {
