@@ -26,8 +26,8 @@ pub(super) struct HeadedFile<'a> {
 pub struct GrantFile<'a> {
     bytes: &'a [u8],
     pub(super) shape: Shape,
-    ghost named: { ShapeOf bytes.now shape },
-    ghost sound: { first (contents_tests bytes.now) ≡ None },
+    pub ghost named: { ShapeOf bytes.now shape },
+    pub ghost sound: { first (contents_tests bytes.now) ≡ None },
 }
 
 // A device's body as a part of its file, and the place in the file at which it starts.
