@@ -34,4 +34,4 @@ count "4 order and bounds" '(self\.value|number) <=? (other\.value|MOST)|input\.
 count "5 requires" '^ *requires ' $code
 count "5 parameters that travel together" '^(pub |pub\(.*\) )?fn .*(shape: Shape, rows|file: &\[u8\], [a-z]+: |words: &\[u64; 64\], )' $code
 count "6 arrays of a fixed length" '\[u(8|64); [0-9]+\]|= \[0; [0-9]+\]' $code
-count "7 a choice of step by a value" 'passes: bool|fn\(|dyn |impl Fn' $code
+count "7 a choice of step by a value" 'passes: bool|\bfn\(|dyn |impl Fn' $code

@@ -8,7 +8,8 @@ use mesh::refusal::Refusal;
 use mesh::row::Row;
 use mesh::shape::Shape;
 
-// The size of the table, and the rows lent for it: as many as it has, or more.
+// The size of the table, and the rows lent for it: as many as it has, or more. Public calls keep the two apart, as callers
+// have them: which rows are enough is for the call to say.
 #[derive(Drop)]
 pub(crate) struct Table<'a, W> {
     pub(crate) shape: Shape,

@@ -6,8 +6,8 @@ ghost use Rattle.mesh.specs.Kinds.{admitted};
 pub(crate) fn amount_of(number: u64) -> Option<u32>
     ensures cases { AmountIn admitted number result }
 {
-    match number {
-        1..=1_000_000 => Some(number as u32),
+    match u32::try_from(number) {
+        Ok(amount @ 1..=1_000_000) => Some(amount),
         _ => None,
     }
 }

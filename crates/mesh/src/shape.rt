@@ -44,7 +44,8 @@ impl Shape {
         self.devices() * self.points()
     }
 
-    // The number of the row of a device and a point; refused 8 outside the table. Constant time.
+    // The number of the row of a device and a point; refused 8 outside the table. Constant time. The two come as bytes and in no
+    // type of their own: any two may be asked for, so there is no fact for a type to keep.
     pub fn row(self, device: u8, point: u8) -> Result<usize, Refusal>
         ensures cases { PlacedRow self device point result }
     {

@@ -18,8 +18,8 @@ pub struct Steps {
 fn amount_of(number: u32) -> Option<u8>
     ensures cases { AmountIn admitted number result }
 {
-    match number {
-        1..=9 | 20..=29 => Some(number as u8),
+    match u8::try_from(number) {
+        Ok(amount @ (1..=9 | 20..=29)) => Some(amount),
         _ => None,
     }
 }
