@@ -1,6 +1,7 @@
 #!/bin/sh
 # Counts, in src/ at a commit (HEAD where none is named), the lines that may hold one of the older forms of docs/DESIGN-PASS.md.
-# With -v it prints the lines. The tests of trials count with point 3 and 4 only.
+# With -v it prints the lines. The tests of trials count with point 3 only.
+set -f
 say=-c
 [ "$1" = -v ] && { say=-n; shift; }
 at=${1:-HEAD}

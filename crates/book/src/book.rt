@@ -70,13 +70,15 @@ fn shown<W: Weight>(row: &Row<W>) -> Reading<W>
     }
 }
 
-// Where the row of a device and a point lies among the rows lent; refused 4, then 8.
+// Where the row of a device and a point lies among the rows lent; refused 4, then 8. The four stay parameters, here and below:
+// rows are lent to each call, to two of them for writing, and a type over them would be made anew by each.
 fn place<W>(shape: Shape, rows: &[Row<W>], device: u8, point: u8) -> Result<usize, Refusal>
     ensures cases { PlacedIn shape rows.now device point result }
 {
     if rows.len() < shape.rows() {
         return Err(Refusal::ShortMemory);
     }
+    // By `?` and `Ok`: of the plain call no proof was found.
     let at = shape.row(device, point)?;
     Ok(at)
 }

@@ -34,7 +34,7 @@ pub(crate) fn follower_words<W>(table: &Table<W>) -> [u64; 64]
 }
 
 // The follower table beside 0; or, where the rows lent are fewer than the table has, 64 zeros beside 4.
-// Costs one pass over the rows, and one look at each pair of devices. The answer is no `Result`: that the words come whole,
+// Costs two looks at each row, and for each of 64 numbers one look at each device. The answer is no `Result`: that the words come whole,
 // beside 0 or 4, is the rule of this call.
 pub fn followers<W>(shape: Shape, rows: &[Row<W>]) -> ([u64; 64], u8)
     ensures value { FollowerTable shape rows.now result }

@@ -9,7 +9,7 @@ use mesh::row::Row;
 use mesh::shape::Shape;
 
 // The size of the table, and the rows lent for it: as many as it has, or more. Public calls keep the two apart, as callers
-// have them: which rows are enough is for the call to say.
+// have them: which rows are enough is for the call to say. It is not `Copy`, which cannot be derived over a ghost field here.
 #[derive(Drop)]
 pub(crate) struct Table<'a, W> {
     pub(crate) shape: Shape,

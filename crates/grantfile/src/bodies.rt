@@ -83,11 +83,12 @@ impl<'a> Grants<'a> {
         requires passed { first (grants_tests W.Weight.meaning self.now) ≡ None }
         ensures after { BodyFilled W.Weight.meaning self.now.file.now self.now.start self.now.count rows.new }
     {
-        // Not by `fill`, which asks that a clone of W cannot fail; and then by number, as above.
+        // Not by `fill`, which asks that a clone of W cannot fail.
         let empty = Row::empty();
         rows.fill_with(|| empty);
-        for written in 0..self.count {
-            let (point, row) = self.grant(written).unwrap();
+        // By number, as `grant` reads a grant.
+        for number in 0..self.count {
+            let (point, row) = self.grant(number).unwrap();
             rows[usize::from(point)] = row;
         }
     }

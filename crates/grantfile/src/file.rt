@@ -20,8 +20,8 @@ pub(super) struct HeadedFile<'a> {
     ghost named: { ShapeOf bytes.now shape },
 }
 
-// The bytes of a file whose head, contents and end pass, and the shape that it names. Only `open` makes one, and
-// `read` for itself.
+// The bytes of a file whose head, contents and end pass, and the shape that it names. Only `HeadedFile::checked` makes one. The
+// two types have the same fields, as two states of one file, so that clauses name the bytes of both alike.
 #[derive(Clone, Copy)]
 pub struct GrantFile<'a> {
     bytes: &'a [u8],
@@ -100,8 +100,8 @@ impl<'a> GrantFile<'a> {
     ghost use Rattle.grantfile.specs.Reading.{Filled, Opened, Shown};
     ghost use Rattle.grantfile.specs.Tests.{bodies_tests};
 
-    // The file in the bytes, its kind to be `kind`; refused 1, 2, 3, 5, 6 or 7, in this order, as the head, the
-    // contents and the end are checked. One step for each device.
+    // The file in the bytes, its kind to be `kind`, a number as the trait `Weight` has it; refused 1, 2, 3, 5, 6 or 7, in this
+    // order, as the head, the contents and the end are checked. One step for each device.
     pub fn open(kind: u8, bytes: &'a [u8]) -> Result<GrantFile<'a>, Fault>
         ensures cases { Opened kind bytes.now result }
     {

@@ -12,6 +12,7 @@ pub(crate) fn write_decimal(n: u64, memory: &mut [u8]) -> Result<usize, Refusal>
 {
     let mut buffer = Buffer::new();
     let text = buffer.format(n).as_bytes();
+    // Not by `get_mut`: no proof was found for what the memory has then.
     if memory.len() < text.len() {
         return Err(Refusal::ShortMemory);
     }

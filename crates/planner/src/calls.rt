@@ -47,7 +47,8 @@ pub struct Plan<W> {
     pub visits: u64,
 }
 
-// What a call answers; `Misuse` where the compiler would not admit the call.
+// What a call answers; `Misuse` where the compiler would not admit the call. No `Result`: a run tells a list of these, and what
+// is not admitted is neither a success nor a refusal.
 #[derive(Clone, Copy)]
 pub enum Answer<W> {
     Refused(Refusal),

@@ -19,6 +19,7 @@ impl fmt::Display for Order {
 
     fn fmt<W: fmt::Write>(&self, f: &mut fmt::Formatter<W>) -> fmt::Result {
         write!(f, "order")?;
+        // By `iter`: over `&self.devices` two goals stay open.
         for device in self.devices.iter() {
             write!(f, " {device}")?;
         }

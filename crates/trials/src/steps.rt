@@ -70,9 +70,7 @@ impl Weight for Steps {
     }
 
     fn text(self, memory: &mut [u8]) -> Result<usize, Refusal> {
-        let Some(front) = memory.first_mut() else {
-            return Err(Refusal::ShortMemory);
-        };
+        let front = memory.first_mut().ok_or(Refusal::ShortMemory)?;
         *front = b'a' + self.step();
         Ok(1)
     }

@@ -12,9 +12,9 @@ use std::test::Fail;
 
 // 64 devices with an inbox each: a device reads its own, and appends to that of the next one.
 fn line() -> [Row<Sum>; 4096] {
-    array::from_fn(|row| match row % 65 {
-        0 => Row::grant(Right::Read, Sum { value: 1 }),
-        1 => Row::grant(Right::Append, Sum { value: 1 }),
+    array::from_fn(|row| match (row / 64, row % 64) {
+        (device, point) if point == device => Row::grant(Right::Read, Sum { value: 1 }),
+        (device, point) if point == device + 1 => Row::grant(Right::Append, Sum { value: 1 }),
         _ => Row::empty(),
     })
 }

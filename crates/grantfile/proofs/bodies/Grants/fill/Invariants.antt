@@ -2,5 +2,5 @@
 use Rattle.grantfile.specs.Inner.{BodyFilled}
 use Rattle.grantfile.proofs.bodies.Grants.fill.Given as goal
 
-abbrev pub invariant-loop-written : goal.invariant-loop-written
-invariant-loop-written g l = BodyFilled g.W.Weight.meaning l.self.file.now l.self.start l.written l.rows
+abbrev pub invariant-loop-number : goal.invariant-loop-number
+invariant-loop-number g l = BodyFilled g.W.Weight.meaning l.self.file.now l.self.start l.number l.rows
