@@ -1,8 +1,7 @@
 -- One more grant is written.
-use Rattle.std.proofs.Common.{◌≡◌, ℕ, ◌+◌, ◌*◌, ◌<◌, ◌∙◌, length, subst, arith, rules}
+use Rattle.std.proofs.Common.{◌≡◌, ◌+◌, ◌*◌, ◌<◌, ◌∙◌, length, arith, rules}
 use Rattle.std.proofs.lemmas.Result.{IfOk-at_ok}
 use Rattle.grantfile.specs.Format.{point_at}
-use Rattle.grantfile.specs.Inner.{BodyFilled}
 use Rattle.grantfile.specs.Tests.{grant_tests}
 use Rattle.mesh.specs.Rows.{empty_row}
 use Rattle.grantfile.proofs.Firsts.{joined_passed}
@@ -33,10 +32,3 @@ loop-number-preserved g c =
     (more_filled k body.file.now body.start j c.loop-number.rows c.unwrap-point.result.1 c.loop-number.invariant h
     (λ i l. points_rise k body.file.now body.start body.count i j c.requires.passed l c.loop-number-test.true)
     (IfOk-at_ok _ c.unwrap-point.ensures c.grant.ensures.row))
-
-pub returns : goal.returns
-returns g c =
-    let body = c.args.self.now in
-    let n : c.loop-number.number ≡ body.count = omega arith in
-    let P : ℕ → Type 0 = λ m. BodyFilled g.W.Weight.meaning body.file.now body.start m c.loop-number.rows in
-    record { after = subst P n c.loop-number.invariant }

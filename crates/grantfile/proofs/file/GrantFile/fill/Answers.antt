@@ -5,7 +5,7 @@ use Rattle.grantfile.specs.Format.{devices_of, points_of, count_of, body_at}
 use Rattle.grantfile.specs.Inner.{BodyFilled}
 use Rattle.grantfile.specs.Tests.{body_tests}
 use Rattle.grantfile.proofs.Checks.{tests_of_body}
-use Rattle.grantfile.proofs.Devices.{rows_within, more_to, more_beyond, all_filled}
+use Rattle.grantfile.proofs.Devices.{rows_within, more_to, more_beyond}
 use Rattle.grantfile.proofs.Firsts.{joined_passed}
 use Rattle.grantfile.proofs.Written.{points_inside}
 use Rattle.grantfile.proofs.file.GrantFile.fill.Goals as goal
@@ -35,8 +35,3 @@ loop-device-preserved g c =
           c.grants.ensures.start c.grants.ensures.count (ap (λ q. d * q) p) (l ∙ p) (omega arith)
           (λ e j a b. points_inside k file (body_at file e) (count_of file e) j (joined_passed (body_tests k file) (devices_of file) e (omega arith) c.requires.passed) b),
     )
-
-pub returns-clause-table : goal.returns-clause-table
-returns-clause-table g c =
-    let n : c.loop-device.device ≡ c.args.self.now.shape.devices = omega arith in
-    all_filled g.W.Weight.meaning c.args.self.now.bytes.now c.args.self.now.shape c.loop-device.device c.loop-device.rows c.args.self.now.named n c.loop-device.invariant.1

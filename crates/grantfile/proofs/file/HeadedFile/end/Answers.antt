@@ -4,7 +4,7 @@ use Rattle.std.specs.List.{range_with_len, flat_map}
 use Rattle.std.proofs.lemmas.Bool.{eq-eqb, ne_eqb, not_from_true, not_from_false, cond-true, cond-false}
 use Rattle.grantfile.specs.Format.{body_at, start_of, count_of, devices_of}
 use Rattle.grantfile.specs.Tests.{first, entry_test}
-use Rattle.grantfile.proofs.Firsts.{joined_past, joined_stop, joined_end, each_joined}
+use Rattle.grantfile.proofs.Firsts.{joined_past, joined_stop, each_joined}
 use Rattle.grantfile.proofs.Places.{body_first, body_next, entries_count, entry_chunk}
 use Rattle.grantfile.proofs.file.HeadedFile.end.Goals as goal
 use Rattle.grantfile.proofs.file.HeadedFile.end.Goals.{After-entry-start}
@@ -58,13 +58,3 @@ returns-then-from-end-clause-cases c =
     let other : start_of file d ≡ body_at file d → ⊥ = λ same. omega (arith, c.if-from-end.true) in
     joined_stop (λ i. entry_test file i ∷ []) d (devices_of file) _ _ c.loop-device.invariant.left (inside turn)
     (cond-true _ _ _ (not_from_false _ (ne_eqb _ _ other)) ∙ ap Some (sym c.of.ensures.value))
-
-pub returns : goal.returns
-returns c =
-    let file = c.args.self.now.bytes.now in
-    let n = c.as_chunks.ensures.front_len ∙ entries_count file _ (devices_of file) (omega arith) (omega arith) in
-    let z : c.loop-device.device ≡ devices_of file = omega (arith, n, c.loop-device-test.false) in
-    record {
-      cases = joined_end (λ i. entry_test file i ∷ []) c.loop-device.device (devices_of file) _ c.loop-device.invariant.left (omega arith);
-      end = c.loop-device.invariant.place ∙ ap (λ m. body_at file m) z;
-    }
