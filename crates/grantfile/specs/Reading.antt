@@ -33,7 +33,7 @@ Headed kind file (Err f) = first (head_tests kind file) ≡ Some f
 abbrev pub Opened : ℕ → List ℕ → Result GrantFile Fault → Type 0
 Opened kind file (Ok g) =
     (first (head_tests kind file ++ contents_tests file) ≡ None)
-    × (g.bytes.now ≡ file) × ShapeOf file g.shape
+    × (g.headed.bytes.now ≡ file) × ShapeOf file g.headed.shape
 Opened kind file (Err f) = first (head_tests kind file ++ contents_tests file) ≡ Some f
 
 -- a device outside the table is refused at place 0

@@ -17,17 +17,14 @@ use mesh::weight::Weight;
 pub(super) struct HeadedFile<'a> {
     bytes: &'a [u8],
     pub(super) shape: Shape,
-    ghost named: { ShapeOf bytes.now shape },
+    pub ghost named: { ShapeOf bytes.now shape },
 }
 
-// The bytes of a file whose head, contents and end pass, and the shape that it names. Only `HeadedFile::checked` makes one. The
-// two types have the same fields, as two states of one file, so that clauses name the bytes of both alike.
+// A file whose head passes, and its contents and end too. Only `HeadedFile::checked` makes one.
 #[derive(Clone, Copy)]
 pub struct GrantFile<'a> {
-    bytes: &'a [u8],
-    pub(super) shape: Shape,
-    pub ghost named: { ShapeOf bytes.now shape },
-    pub ghost sound: { first (contents_tests bytes.now) ≡ None },
+    pub(super) headed: HeadedFile<'a>,
+    pub ghost sound: { first (contents_tests headed.bytes.now) ≡ None },
 }
 
 // A device's body as a part of its file, and the place in the file at which it starts.
@@ -75,7 +72,7 @@ impl<'a> HeadedFile<'a> {
     // (6), and the last body to end with the file (7), in this order. One step for each device.
     pub(super) fn checked(self) -> Result<GrantFile<'a>, Fault>
         ensures cases { first (contents_tests self.entry.bytes.now) ≡ result_err result }
-        ensures bytes { IfOk result (λ file. file.bytes.now ≡ self.entry.bytes.now) }
+        ensures bytes { IfOk result (λ file. file.headed.bytes.now ≡ self.entry.bytes.now) }
     {
         let len = self.bytes.len();
         if len < 4 + 3 * self.shape.devices() {
@@ -85,10 +82,7 @@ impl<'a> HeadedFile<'a> {
         if len != end {
             return Err(Fault::of(Layer::Contents, Refusal::WrongEnd, len.min(end)));
         }
-        Ok(GrantFile {
-            bytes: self.bytes,
-            shape: self.shape,
-        })
+        Ok(GrantFile { headed: self })
     }
 }
 
@@ -110,15 +104,15 @@ impl<'a> GrantFile<'a> {
 
     // The grants of a device in the table. Constant time.
     pub(super) fn grants(&self, device: usize) -> Grants<'a>
-        requires { device < devices_of self.now.bytes.now }
-        ensures file { result.file.now ≡ self.now.bytes.now }
-        ensures start { result.start ≡ body_at self.now.bytes.now device }
-        ensures count { result.count ≡ count_of self.now.bytes.now device }
+        requires { device < devices_of self.now.headed.bytes.now }
+        ensures file { result.file.now ≡ self.now.headed.bytes.now }
+        ensures start { result.start ≡ body_at self.now.headed.bytes.now device }
+        ensures count { result.count ≡ count_of self.now.headed.bytes.now device }
     {
-        let (start, count, _) = entry(&self.bytes[4 + 3 * device..]);
+        let (start, count, _) = entry(&self.headed.bytes[4 + 3 * device..]);
         Grants {
-            file: self.bytes,
-            points: self.shape.points(),
+            file: self.headed.bytes,
+            points: self.headed.shape.points(),
             start: usize::from(start),
             count: usize::from(count),
         }
@@ -126,10 +120,10 @@ impl<'a> GrantFile<'a> {
 
     // The body of a device, as a part of the file; outside the table refused 8 at place 0. Constant time.
     pub fn body(&self, device: u8) -> Result<Body<'a>, Fault>
-        ensures cases { Shown self.now.bytes.now device result }
+        ensures cases { Shown self.now.headed.bytes.now device result }
     {
         let device = usize::from(device);
-        if device >= self.shape.devices() {
+        if device >= self.headed.shape.devices() {
             return Err(Fault::of(Layer::Body, Refusal::OutsideTable, 0));
         }
         let grants = self.grants(device);
@@ -142,9 +136,9 @@ impl<'a> GrantFile<'a> {
     // Checks the bodies, device by device; refused 8, 9 or 10 at the first grant that does not pass. One step for each
     // device and grant.
     pub(super) fn check<W: Weight>(&self) -> Result<(), Fault>
-        ensures cases { first (bodies_tests W.Weight.meaning self.now.bytes.now) ≡ result_err result }
+        ensures cases { first (bodies_tests W.Weight.meaning self.now.headed.bytes.now) ≡ result_err result }
     {
-        for device in 0..self.shape.devices() {
+        for device in 0..self.headed.shape.devices() {
             self.grants(device).check::<W>()?;
         }
         Ok(())
@@ -153,14 +147,14 @@ impl<'a> GrantFile<'a> {
     // Fills the rows of the table, device by device, where the bodies pass, and leaves the rows past the table. One
     // step for each row and grant.
     pub(super) fn fill<W: Weight>(&self, rows: &mut [Row<W>])
-        requires lent { rows_of self.now.shape ≤ length rows.old }
-        requires passed { first (bodies_tests W.Weight.meaning self.now.bytes.now) ≡ None }
-        ensures table { Filled W.Weight.meaning self.now.shape self.now.bytes.now rows.new }
-        ensures beyond { drop (rows_of self.now.shape) rows.new ≡ drop (rows_of self.now.shape) rows.old }
+        requires lent { rows_of self.now.headed.shape ≤ length rows.old }
+        requires passed { first (bodies_tests W.Weight.meaning self.now.headed.bytes.now) ≡ None }
+        ensures table { Filled W.Weight.meaning self.now.headed.shape self.now.headed.bytes.now rows.new }
+        ensures beyond { drop (rows_of self.now.headed.shape) rows.new ≡ drop (rows_of self.now.headed.shape) rows.old }
     {
-        let points = self.shape.points();
+        let points = self.headed.shape.points();
         // By index: once a loop over chunks_exact_mut has ended, a proof knows only how many rows there are.
-        for device in 0..self.shape.devices() {
+        for device in 0..self.headed.shape.devices() {
             let at = device * points;
             self.grants(device).fill(&mut rows[at..at + points]);
         }

@@ -24,5 +24,5 @@ pub fn read<W: Weight>(file: &[u8], rows: &mut [Row<W>]) -> Result<Shape, Fault>
     let file = headed.checked()?;
     file.check::<W>()?;
     file.fill(rows);
-    Ok(file.shape)
+    Ok(file.headed.shape)
 }

@@ -25,11 +25,11 @@ returns-in_err-file g c =
     record { cases = h.0; exactly = h.1 }
 
 -- the file that is checked is the one that was read, so what its bodies' tests give is what all tests do
-same_file : (g : given.Over) (c : After-check g) → c.in_ok-file.file.bytes.now ≡ c.args.file.now
+same_file : (g : given.Over) (c : After-check g) → c.in_ok-file.file.headed.bytes.now ≡ c.args.file.now
 same_file g c = c.in_ok-file.ensures.bytes ∙ c.in_ok-headed.ensures.bytes
 
 bodies_left : (g : given.Over) (c : After-check g)
-    → first (all_tests g.W.Weight.meaning (length c.args.rows.now) c.args.file.now) ≡ first (bodies_tests g.W.Weight.meaning c.in_ok-file.file.bytes.now)
+    → first (all_tests g.W.Weight.meaning (length c.args.rows.now) c.args.file.now) ≡ first (bodies_tests g.W.Weight.meaning c.in_ok-file.file.headed.bytes.now)
 bodies_left g c =
     let k = g.W.Weight.meaning in
     let s = c.in_ok-headed.headed.shape in
@@ -50,11 +50,11 @@ pub returns : goal.returns
 returns g c =
     let k = g.W.Weight.meaning in
     let before = (goal.at.returns g c).After-check in
-    let s = c.in_ok-file.file.shape in
+    let s = c.in_ok-file.file.headed.shape in
     let same = same_file g before in
     let h : ReadInto k c.args.file.now c.args.rows.now c.fill.new.rows (Ok s) = (
       bodies_left g before ∙ c.in_ok-check.ensures.cases,
-      subst (λ b. ShapeOf b s) same c.in_ok-file.file.named,
+      subst (λ b. ShapeOf b s) same c.in_ok-file.file.headed.named,
       subst (λ b. Filled k s b c.fill.new.rows) same c.fill.ensures.table,
       c.fill.ensures.beyond,
     ) in

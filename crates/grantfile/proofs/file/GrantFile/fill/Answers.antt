@@ -13,7 +13,7 @@ use Rattle.grantfile.proofs.file.GrantFile.fill.Goals as goal
 pub fill-requires-clause-passed : goal.fill-requires-clause-passed
 fill-requires-clause-passed g c =
     let k = g.W.Weight.meaning in
-    let file = c.args.self.now.bytes.now in
+    let file = c.args.self.now.headed.bytes.now in
     let d = c.loop-device.device in
     let inside : d < devices_of file = omega arith in
     sym (tests_of_body k file d c.grants.result c.grants.ensures.file c.grants.ensures.start c.grants.ensures.count) ∙ joined_passed (body_tests k file) (devices_of file) d inside c.requires.passed
@@ -21,12 +21,12 @@ fill-requires-clause-passed g c =
 pub loop-device-preserved : goal.loop-device-preserved
 loop-device-preserved g c =
     let k = g.W.Weight.meaning in
-    let file = c.args.self.now.bytes.now in
+    let file = c.args.self.now.headed.bytes.now in
     let d = c.loop-device.device in
     let points = c.points-points.result in
     let inside : d < devices_of file = omega arith in
     let p : points ≡ points_of file = omega arith in
-    let r = rows_within c.args.self.now.shape d points (length c.loop-device.rows) (omega arith) c.points-points.ensures.value (omega (arith, c.requires.lent)) in
+    let r = rows_within c.args.self.now.headed.shape d points (length c.loop-device.rows) (omega arith) c.points-points.ensures.value (omega (arith, c.requires.lent)) in
     let filled = subst (λ bytes. BodyFilled k bytes c.grants.result.start c.grants.result.count c.fill.new.rows) c.grants.ensures.file c.fill.ensures.after in
     let n : d * points + points - d * points ≡ points = omega arith in
     let l : length c.fill.new.rows ≡ points = c.fill.auto.rows ∙ length-between c.loop-device.rows (d * points) (d * points + points) r ∙ n in (

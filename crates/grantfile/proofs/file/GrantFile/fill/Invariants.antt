@@ -5,4 +5,4 @@ use Rattle.grantfile.proofs.file.GrantFile.fill.Given as goal
 
 abbrev pub invariant-loop-device : goal.invariant-loop-device
 invariant-loop-device g l =
-    (drop (l.device * l.points) l.rows ≡ drop (l.device * l.points) l.initial.rows) × FilledTo g.W.Weight.meaning l.device l.self.bytes.now l.rows
+    (drop (l.device * l.points) l.rows ≡ drop (l.device * l.points) l.initial.rows) × FilledTo g.W.Weight.meaning l.device l.self.headed.bytes.now l.rows

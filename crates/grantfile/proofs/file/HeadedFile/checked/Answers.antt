@@ -14,6 +14,6 @@ pub returns-then-len-end-clause-cases : goal.returns-then-len-end-clause-cases
 returns-then-len-end-clause-cases c =
     end_stops c.args.self.bytes.now c.in_ok-end.end _ (omega arith) c.in_ok-end.ensures.cases c.in_ok-end.ensures.end (λ z. omega (arith, c.if-len-end.true)) (c.of-then-len-end.ensures.value ∙ ap (λ n. record { why = WrongEnd; place = n; layer = layer.Contents }) c.min.ensures)
 
-pub invariant_of-result-clause-sound : goal.invariant_of-result-clause-sound
-invariant_of-result-clause-sound c =
-    contents_passed c.args.self.bytes.now (omega arith) c.in_ok-end.ensures.cases (omega (arith, c.in_ok-end.ensures.end))
+pub invariant_of-result : goal.invariant_of-result
+invariant_of-result c =
+    record { sound = contents_passed c.args.self.bytes.now (omega arith) c.in_ok-end.ensures.cases (omega (arith, c.in_ok-end.ensures.end)) }
