@@ -23,7 +23,7 @@ count() {
 count "1a enums of the crates' own" '^(pub )?enum ' $code
 count "1b a flag, a number for a kind or a refusal, a value that stands for none" ', u8\)|: bool,|kind: u8|fn (kind|number)\(|-> bool$|_ => \(0|else \{ 0 \}|^ +0$|unwrap_or\(0\)|number\(\)\)' $code
 count "1c Ok, Err, Some or None passed on by hand" '(Ok|Err|Some|None)(\([a-z_]*\))? => |let (Some|Ok|Err)\(.*else \{$' $code
-count "2 the same test of the rows lent" 'rows\.len\(\) < shape\.rows\(\)' $code
+count "2 the same test of the rows lent" 'rows\.len\(\) < .*shape\.rows\(\)' $code
 count "2 numbers read from bytes" '\* (256|65536) \+|from_be_bytes' $code
 count "2 entries read one behind the other" '= entry\(rest\)' $code
 count "2 sets gathered number by number" 'with_if\(' $code

@@ -78,9 +78,7 @@ fn place<W>(shape: Shape, rows: &[Row<W>], device: u8, point: u8) -> Result<usiz
     if rows.len() < shape.rows() {
         return Err(Refusal::ShortMemory);
     }
-    // By `?` and `Ok`: of the plain call no proof was found.
-    let at = shape.row(device, point)?;
-    Ok(at)
+    shape.row(device, point)
 }
 
 // Writes a grant into the row of a device and a point.

@@ -18,6 +18,7 @@ pub fn read<W: Weight>(file: &[u8], rows: &mut [Row<W>]) -> Result<Shape, Fault>
     ensures exactly { Accepts W.Weight.meaning (length rows.old) file.now result }
 {
     let headed = HeadedFile::new(W::kind(), file)?;
+    // The test stands here too, and not in a table of flow's: readers of files stand on no flow, and answer a fault.
     if rows.len() < headed.shape.rows() {
         return Err(Fault::of(Layer::Rows, Refusal::ShortMemory, 0));
     }

@@ -8,7 +8,7 @@ use mesh::weight::Weight;
 use std::process::Abort;
 use std::test::Fail;
 
-// The amount of the weight that the kind makes, or the number of its refusal.
+// The amount of the weight that the kind makes, or the number of its refusal, as it is reported.
 fn making<W: Weight>(amount: u32) -> Result<u32, u8> {
     W::make(amount).map(W::amount).map_err(Refusal::number)
 }
