@@ -1,12 +1,9 @@
 -- From the rows to the points that devices read and write, and from these to followers.
-use Rattle.std.proofs.Common.{◌≡◌, ℕ, zero, suc, ◌+◌, ◌<◌, ◌≤◌, Bool, true, false, cond, not, ◌&&◌, T, eqb, ltb, ◌⊎◌, List, [], ◌∷◌, map, length, get_or, get_or-drop, take, drop, sym, refl, ap, ◌∙◌, subst, ap₂, zero-add, inl, inr, le_of_suc-le-suc, not-suc-le-zero, eq-or-lt_of_le, arith, ltb-false, ltb-true, le-ltb, lt-ltb, ne_eqb}
+use Rattle.std.proofs.Common.{◌≡◌, ℕ, zero, suc, ◌+◌, ◌<◌, ◌≤◌, Bool, true, false, cond, not, ◌&&◌, T, eqb, ltb, ◌⊎◌, List, [], ◌∷◌, map, length, get_or, get_or-drop, take, drop, replicate, set, sym, refl, ap, ◌∙◌, subst, ap₂, inl, inr, le_of_suc-le-suc, not-suc-le-zero, eq-or-lt_of_le, add-one, arith, length-set, get_or-set_other, get_or-set_same, ltb-false, ltb-true, le-ltb, lt-ltb, ne_eqb}
 use Rattle.std.specs.Int.{bit_at, from_bool}
-use Rattle.std.proofs.lemmas.Nat.Bits.{bit_at-zero, bit_at_above, same_from_bits}
+use Rattle.std.proofs.lemmas.Nat.Bits.{bit_at-zero, bit_at_above}
 use borrow.Author.Tests.{eqb-false}
-use denote.Param.Members.{Mut}
-use Rattle.std.specs.Fn.{Called}
-use Rattle.std.specs.Array.{IsFromFnResult, IsFromFnResultFrom}
-use Rattle.std.proofs.lemmas.List.{get_or_past, get_or-take}
+use Rattle.std.proofs.lemmas.List.{get_or_past, get_or-replicate, get_or-take, length-replicate}
 use Rattle.std.proofs.lemmas.Bool.{cases_lt, and_parts, not-true}
 use Rattle.flow.specs.declared.touched.Touched.{Touched}
 use Rattle.mesh.specs.declared.right.Right.{Right}
@@ -19,7 +16,7 @@ use Rattle.flow.specs.Flow.{Rights, right_at, placed, rights, Source}
 use Rattle.flow.specs.Followers.{Follows, Followers}
 use Rattle.flow.specs.Sets.{meets, set_of}
 use Rattle.flow.specs.Touched.{TouchesAt, touched_at, Touches, feeds}
-use Rattle.flow.proofs.SetLaws.{set_of_bit, set_of_lt, set_of_within, meets_found, meets_at, empty_has_none, bit_choice}
+use Rattle.flow.proofs.SetLaws.{set_of_bit, set_of_lt, set_of_within, meets_found, meets_at, empty_has_none}
 
 -- the right in a row that is read
 pub right_in_row : {W : Type 0} (rows : List (Row W)) (i : ℕ) (x : Row W) → i < length rows → right_at rows i ≡ (get_or rows i x).right
@@ -33,23 +30,33 @@ pub right_in_part : {W : Type 0} (rows : List (Row W)) (first n i : ℕ) (x : Ro
 right_in_part rows first n i x h l e =
     right_in_row rows (first + i) x (omega arith) ∙ ap (λ y. y.right) (sym (e ∙ get_or-take n (drop first rows) i x h ∙ get_or-drop first rows i x))
 
--- ---- an array made by a closure
+-- ---- a table of 64 that a loop fills from the front
 
--- what each call gave, where no call changes the closure
-each_call : {F B : Type 0} (g : Mut F (ℕ × Unit {0}) B) (P : ℕ → B → Type 0) (f : F) (ys : List B) (m : ℕ)
-    → ((i : ℕ) (y : B) (q : F) → i < m → Called g f (i, tt) y q → P i y × (q ≡ f))
-    → (n i : ℕ) (p : F) → i + n ≡ m → p ≡ f → IsFromFnResultFrom g p ys i n → (k : ℕ) (e : B) → i ≤ k → k < m → P k (get_or ys k e)
-each_call g P f ys m gives zero i p end same calls k e l u = absurd (omega arith)
-each_call g P f ys m gives (suc n) i p end same (q, y, at, call, rest) k e l u =
-    let now = gives i y q (omega arith) (subst (λ x. Called g x (i, tt) y q) same call) in
-    elim (eq-or-lt_of_le l) [
-      | inl s ↦ subst (λ j. P j (get_or ys j e)) s (subst (P i) (sym (at.1 e)) now.0)
-      | inr above ↦ each_call g P f ys m gives n (i + 1) q (omega arith) now.1 rest k e (omega arith) u
-    ]
+-- the places below n are as P wants them, and the others hold x still
+pub record FilledTo {A : Type 0} (P : ℕ → A → Type 0) (x : A) (n : ℕ) (ys : List A) : Type 0 where
+  pub long : length ys ≡ 64
+  pub filled : (k : ℕ) → k < n → P k (get_or ys k x)
+  pub past : (k : ℕ) → n ≤ k → get_or ys k x ≡ x
 
-pub made_each : {F B : Type 0} {g : Mut F (ℕ × Unit {0}) B} {f : F} {ys : List B} {m : ℕ} (P : ℕ → B → Type 0) → IsFromFnResult g f ys m
-    → ((i : ℕ) (y : B) (q : F) → i < m → Called g f (i, tt) y q → P i y × (q ≡ f)) → (k : ℕ) (e : B) → k < m → P k (get_or ys k e)
-made_each {g = g} {f = f} {ys = ys} {m = m} P made gives k e l = each_call g P f ys m gives m 0 f (zero-add m) refl made.each k e (omega arith) l
+pub filled_none : {A : Type 0} (P : ℕ → A → Type 0) (x : A) → FilledTo P x 0 (replicate 64 x)
+filled_none P x = record {
+  long = length-replicate 64 x;
+  filled = λ k h. absurd (omega arith);
+  past = λ k h. elim (cases_lt k 64) [
+    | inl l ↦ get_or-replicate 64 k x x l
+    | inr above ↦ let l = length-replicate 64 x in get_or_past (replicate 64 x) k x (omega arith)
+  ];
+}
+
+pub filled_more : {A : Type 0} (P : ℕ → A → Type 0) (x : A) (n : ℕ) (ys : List A) (y : A) → n < 64 → P n y → FilledTo P x n ys → FilledTo P x (n + 1) (set ys n y)
+filled_more P x n ys y h e f = let l = f.long in record {
+  long = simp length-set f.long;
+  filled = λ k u. elim (eq-or-lt_of_le (le_of_suc-le-suc (subst (λ m. suc k ≤ m) (add-one n) u))) [
+    | inl q ↦ subst (λ j. P j (get_or (set ys n y) j x)) (sym q) (subst (P n) (sym (get_or-set_same ys n y x (omega arith))) e)
+    | inr below ↦ subst (P k) (sym (get_or-set_other ys n k y x (λ q. absurd (omega arith)))) (f.filled k below)
+  ];
+  past = λ k u. get_or-set_other ys n k y x (λ q. absurd (omega arith)) ∙ f.past k (omega arith);
+}
 
 -- ---- the points of one device
 
@@ -79,14 +86,14 @@ touches_there s rows d t h r w = record { reading = points_of can_read refl s ro
 pub touches_nothing : {W : Type 0} (s : Shape) (rows : List (Row W)) (d : ℕ) → s.devices ≤ d → TouchesAt (rights s rows) d (record { reads = 0; writes = 0 })
 touches_nothing s rows d h = record { reading = no_points can_read refl s rows d h; writing = no_points can_write refl s rows d h }
 
--- a table of 64, each of its places that of a device
-pub touches_each : {W : Type 0} (s : Shape) (rows : List (Row W)) (ts : List Touched) → s.devices ≤ 64 → length ts ≡ 64
-    → ((d : ℕ) → d < 64 → TouchesAt (rights s rows) d (touched_at ts d)) → Touches (rights s rows) ts
-touches_each s rows ts le long at d = go (cases_lt d 64)
+-- the sets of every device, where each device of the table has its place
+pub touches_each : {W : Type 0} (s : Shape) (rows : List (Row W)) (ts : List Touched)
+    → FilledTo (TouchesAt (rights s rows)) (record { reads = 0; writes = 0 }) s.devices ts → Touches (rights s rows) ts
+touches_each s rows ts f d = go (cases_lt d s.devices)
   where
-    go : (d < 64) ⊎ (64 ≤ d) → TouchesAt (rights s rows) d (touched_at ts d)
-    go (inl h) = at d h
-    go (inr h) = subst (TouchesAt (rights s rows) d) (sym (get_or_past ts d _ (omega arith))) (touches_nothing s rows d (omega arith))
+    go : (d < s.devices) ⊎ (s.devices ≤ d) → TouchesAt (rights s rows) d (touched_at ts d)
+    go (inl h) = f.filled d h
+    go (inr h) = subst (TouchesAt (rights s rows) d) (sym (f.past d h)) (touches_nothing s rows d h)
 
 -- ---- followers
 
@@ -143,24 +150,20 @@ source_feeds g ts a b t h =
     ap₂ (λ x y. not x && y) (ne_eqb a b h.apart) (meets_at (touched_at ts a).writes (touched_at ts b).reads h.point w r)
 
 module _ {W : Type 0} (s : Shape) (rows : List (Row W)) (ts : List Touched) (words : List ℕ) (le : s.devices ≤ 64) (t : Touches (rights s rows) ts)
-    (long : length words ≡ 64) (at : (a : ℕ) → a < 64 → get_or words a 0 ≡ set_of (feeds ts a) s.devices) where
+    (f : FilledTo (λ a w. w ≡ set_of (feeds ts a) s.devices) 0 s.devices words) where
+  pub words_past : (a : ℕ) → s.devices ≤ a → get_or words a 0 ≡ 0
+  words_past = f.past
+
   pub words_followers : Followers (rights s rows) words
   words_followers = record {
-    sound = λ a b m. feeds_source (rights s rows) ts a b t (member a b m (cases_lt a 64));
+    sound = λ a b m. feeds_source (rights s rows) ts a b t (member a b (cases_lt a s.devices) m);
     whole = λ a b h.
         let w = source_within s rows a b h in
-        ap (λ x. bit_at x b) (at a (omega arith)) ∙ set_of_bit (feeds ts a) s.devices b w.1 ∙ ap from_bool (source_feeds (rights s rows) ts a b t h);
+        ap (λ x. bit_at x b) (f.filled a w.0) ∙ set_of_bit (feeds ts a) s.devices b w.1 ∙ ap from_bool (source_feeds (rights s rows) ts a b t h);
   }
     where
-      member : (a b : ℕ) → Follows words a b → (a < 64) ⊎ (64 ≤ a) → feeds ts a b ≡ true
-      member a b m (inl l) =
-          let i = ap (λ x. bit_at x b) (sym (at a l)) ∙ m in
+      member : (a b : ℕ) → (a < s.devices) ⊎ (s.devices ≤ a) → Follows words a b → feeds ts a b ≡ true
+      member a b (inl l) m =
+          let i = ap (λ x. bit_at x b) (sym (f.filled a l)) ∙ m in
           digit_true _ (sym (set_of_bit (feeds ts a) s.devices b (set_of_within (feeds ts a) s.devices b i)) ∙ i)
-      member a b m (inr g) = absurd (empty_has_none (get_or words a 0) b (get_or_past words a 0 (omega arith)) m)
-
-  pub words_past : (a : ℕ) → s.devices ≤ a → get_or words a 0 ≡ 0
-  words_past a h = same_from_bits (get_or words a 0) 0 (λ b. go b (bit_choice (get_or words a 0) b))
-    where
-      go : (b : ℕ) → (bit_at (get_or words a 0) b ≡ 0) ⊎ (bit_at (get_or words a 0) b ≡ 1) → bit_at (get_or words a 0) b ≡ bit_at 0 b
-      go b (inl z) = z ∙ sym (bit_at-zero b)
-      go b (inr m) = let w = source_within s rows a b (words_followers.sound a b m) in absurd (omega arith)
+      member a b (inr g) m = absurd (empty_has_none (get_or words a 0) b (words_past a g) m)

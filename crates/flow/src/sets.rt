@@ -119,3 +119,28 @@ pub(crate) fn set_where<F: Fn(usize) -> bool>(n: usize, test: F) -> u64
     }
     set
 }
+
+// The set of those of the first n numbers that pass one test, and the set of those that pass another, in one pass: each test is
+// asked once of each.
+pub(crate) fn sets_where<F: Fn(usize) -> bool, G: Fn(usize) -> bool>(
+    n: usize,
+    one: F,
+    other: G,
+) -> (u64, u64)
+    requires small { n ≤ 64 }
+    requires callable { (i : ℕ) → i < n → F.pre one i × G.pre other i }
+    ensures one { (p : ℕ → Bool) → ((i : ℕ) (b : Bool) → i < n → F.post one i b → b ≡ p i) → result.0 ≡ set_of p n }
+    ensures other { (p : ℕ → Bool) → ((i : ℕ) (b : Bool) → i < n → G.post other i b → b ≡ p i) → result.1 ≡ set_of p n }
+{
+    let mut first = 0;
+    let mut second = 0;
+    for i in 0..n {
+        if one(i) {
+            first |= 1 << i;
+        }
+        if other(i) {
+            second |= 1 << i;
+        }
+    }
+    (first, second)
+}

@@ -2,7 +2,7 @@
 ghost use Rattle.std.specs.Prelude.{◌≤◌, length};
 ghost use Rattle.mesh.specs.Table.{rows_of};
 
-use super::sets::set_where;
+use super::sets::sets_where;
 use super::touched::Touched;
 use mesh::refusal::Refusal;
 use mesh::row::Row;
@@ -20,7 +20,7 @@ pub(crate) struct Table<'a, W> {
 impl<'a, W> Table<'a, W> {
     ghost use Rattle.std.specs.Prelude.{◌≡◌};
     ghost use Rattle.flow.specs.Tables.{TableOver, table_rights};
-    ghost use Rattle.flow.specs.Touched.{TouchesAt};
+    ghost use Rattle.flow.specs.Touched.{Touches, TouchesAt};
 
     // The table over the rows; refused 4 where they are too few.
     pub(crate) fn over(shape: Shape, rows: &'a [Row<W>]) -> Result<Table<'a, W>, Refusal>
@@ -45,9 +45,25 @@ impl<'a, W> Table<'a, W> {
         let points = self.shape.points();
         let first = device * points;
         let rows = &self.rows[first..first + points];
-        Touched {
-            reads: set_where(points, |p| rows[p].right.can_read()),
-            writes: set_where(points, |p| rows[p].right.can_write()),
+        let (reads, writes) = sets_where(
+            points,
+            |p| rows[p].right.can_read(),
+            |p| rows[p].right.can_write(),
+        );
+        Touched { reads, writes }
+    }
+
+    // What each device touches; no points past the table's devices. One pass over the rows.
+    pub(crate) fn each_touched(&self) -> [Touched; 64]
+        ensures value { Touches (table_rights self.now) result }
+    {
+        let mut touched = [Touched {
+            reads: 0,
+            writes: 0,
+        }; 64];
+        for device in 0..self.shape.devices() {
+            touched[device] = self.touched(device);
         }
+        touched
     }
 }

@@ -1,6 +1,6 @@
 // What a grant lets its device do at its point.
 ghost use Rattle.std.specs.Prelude.{◌≡◌};
-ghost use Rattle.mesh.specs.Rights.{OfGrant, can_read, can_write, letter_of};
+ghost use Rattle.mesh.specs.Rights.{OfGrant, can_read, can_write, letter_of, right_of};
 
 use super::refusal::Refusal;
 
@@ -44,6 +44,13 @@ impl Right {
             Right::Append => b'a',
             Right::Both => b'w',
         }
+    }
+
+    // The right of a grant by its letter, r, a or w; none for any other byte, e among them, which `try_from` refuses. Constant time.
+    pub fn of_grant(letter: u8) -> Option<Right>
+        ensures value { result ≡ right_of letter }
+    {
+        Right::try_from(letter).ok()
     }
 }
 

@@ -1,19 +1,24 @@
-use Rattle.std.proofs.Common.{◌≡◌, ℕ, ◌<◌, ◌≤◌, arith, rules}
-use Rattle.flow.specs.Tables.{table_rights}
-use Rattle.flow.specs.Touched.{TouchesAt, feeds}
+use Rattle.std.proofs.Common.{◌≡◌, subst, arith}
 use Rattle.flow.specs.Sets.{set_of}
-use Rattle.flow.proofs.FlowLaws.{made_each, touches_each, words_followers, words_past}
+use Rattle.flow.specs.Touched.{feeds}
+use Rattle.flow.proofs.FlowLaws.{FilledTo, filled_none, filled_more, words_followers}
 use Rattle.flow.proofs.followers.follower_words.Goals as goal
 
-pub returns : goal.returns
-returns g c =
-    let s = c.args.table.now.shape in
-    let rows = c.args.table.now.rows.now in
-    let ts = c.from_fn-touched.result in
-    let words = c.from_fn.result in
-    let le : s.devices ≤ 64 = omega arith in
-    let made = c.from_fn-touched.ensures.items in
-    let t = touches_each s rows ts le made.long (λ d h. made_each (TouchesAt (table_rights c.args.table.now)) made (λ i y q l k. search rules) d _ h) in
-    let written = c.from_fn.ensures.items in
-    let at = λ (a : ℕ) (h : a < 64). made_each (λ b w. w ≡ set_of (feeds ts b) s.devices) written (λ i y q l k. search rules) a 0 h in
-    record { value = words_followers s rows ts words le t written.long at; past = words_past s rows ts words le t written.long at }
+pub loop-from-init : goal.loop-from-init
+loop-from-init g c = filled_none _ _
+
+pub loop-from-preserved : goal.loop-from-preserved
+loop-from-preserved g c =
+    let ts = c.each_touched-touched.result in
+    let word = c.set_where.ensures.value (feeds ts c.loop-from.from-counter) (λ i b h q. q) in
+    filled_more _ 0 c.loop-from.from-counter c.loop-from.words c.set_where.result (omega arith) word c.loop-from.invariant
+
+pub returns-clause-value : goal.returns-clause-value
+returns-clause-value g c =
+    let t = c.args.table.now in
+    let ts = c.each_touched-touched.result in
+    let d = c.devices-devices.ensures.value in
+    let e : c.loop-from.from-counter ≡ c.devices-devices.result = omega arith in
+    let filled = subst (λ n. FilledTo (λ a w. w ≡ set_of (feeds ts a) n) 0 n c.loop-from.words) d
+    (subst (λ n. FilledTo (λ a w. w ≡ set_of (feeds ts a) c.devices-devices.result) 0 n c.loop-from.words) e c.loop-from.invariant) in
+    words_followers t.shape t.rows.now ts c.loop-from.words (omega arith) c.each_touched-touched.ensures.value filled
