@@ -149,7 +149,7 @@ source_feeds g ts a b t h =
     let r = (t b).reading h.point ∙ ap from_bool (holds_true _ h.read) in
     ap₂ (λ x y. not x && y) (ne_eqb a b h.apart) (meets_at (touched_at ts a).writes (touched_at ts b).reads h.point w r)
 
-module _ {W : Type 0} (s : Shape) (rows : List (Row W)) (ts : List Touched) (words : List ℕ) (le : s.devices ≤ 64) (t : Touches (rights s rows) ts)
+module _ {W : Type 0} (s : Shape) (rows : List (Row W)) (ts : List Touched) (words : List ℕ) (t : Touches (rights s rows) ts)
     (f : FilledTo (λ a w. w ≡ set_of (feeds ts a) s.devices) 0 s.devices words) where
   pub words_past : (a : ℕ) → s.devices ≤ a → get_or words a 0 ≡ 0
   words_past = f.past

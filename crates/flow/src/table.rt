@@ -53,7 +53,7 @@ impl<'a, W> Table<'a, W> {
         Touched { reads, writes }
     }
 
-    // What each device touches; no points past the table's devices. One pass over the rows.
+    // What each device touches; no points past the table's devices. One pass over the rows, by a loop, as `follower_words` goes.
     pub(crate) fn each_touched(&self) -> [Touched; 64]
         ensures value { Touches (table_rights self.now) result }
     {

@@ -102,6 +102,8 @@ fn letters_are_rights(rt: HostRuntime) {
     assert_eq!(rt; Right::try_from(b'a'), Ok(Right::Append));
     assert_eq!(rt; Right::try_from(b'w'), Ok(Right::Both));
     assert_eq!(rt; Right::try_from(b'e'), Err(Refusal::WrongRight));
+    assert_eq!(rt; Right::of_grant(b'r'), Some(Right::Read));
+    assert_eq!(rt; Right::of_grant(b'a'), Some(Right::Append));
     assert_eq!(rt; Right::of_grant(b'w'), Some(Right::Both));
     assert_eq!(rt; Right::of_grant(b'e'), None);
     assert_eq!(rt; Right::Append.letter(), b'a');

@@ -5,4 +5,4 @@ use Rattle.flow.proofs.FlowLaws.{FilledTo}
 use Rattle.flow.proofs.followers.follower_words.Given as goal
 
 abbrev pub invariant-loop-from : goal.invariant-loop-from
-invariant-loop-from g l = FilledTo (λ a w. w ≡ set_of (feeds l.touched a) l.devices) 0 l.from-counter l.words
+invariant-loop-from g l = FilledTo (λ a w. w ≡ set_of (feeds l.touched a) l.devices) 0 l.from l.words
